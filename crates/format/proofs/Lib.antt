@@ -1,0 +1,5 @@
+pub mod Picks
+pub mod Pigeons
+pub mod Rising
+pub mod Accepted
+pub mod Sound
