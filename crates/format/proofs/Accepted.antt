@@ -16,7 +16,7 @@ use Rattle.format.specs.declared.Refusal.{Refusal}
 use Rattle.format.specs.declared.Refusal.the-variants.{Cut, WrongTag, WrongLength}
 use Rattle.format.specs.Bytes.{byte, number, places, districts, roads, whole}
 use Rattle.format.specs.Picks.{first}
-use Rattle.format.specs.Reading.{and-then, unless, field, walked, fields, counts, contents, known-districts, inhabited-districts, right-roads, right-arrivals, judged, district-of, has-place, road-of, arrival-of, arriving, right-road, right-arrival, within-limits, rises-by-start, rises-by-end, previous, before}
+use Rattle.format.specs.Reading.{and-then, unless, field, walked, fields, counts, contents, known-districts, inhabited-districts, right-roads, right-arrivals, judged, accepts, district-of, has-place, road-of, arrival-of, arriving, right-road, right-arrival, within-limits, rises-by-start, rises-by-end, previous, before}
 use Rattle.format.proofs.Picks.{none-of, found-in}
 use Rattle.format.proofs.Rising.{Steps, before-holds}
 
@@ -53,14 +53,17 @@ pub record InRange (n k m : ℕ) : Type 0 where
   pub few-districts : k ≤ 64
   pub few-roads : m ≤ 4096
 
-in-range : (n k m : ℕ) → (leb 1 n && leb n 1024 && leb 1 k && leb k 64 && leb m 4096) ≡ true → InRange n k m
-in-range n k m t = record {
+ranged : (n k m : ℕ) → (leb 1 n && leb n 1024 && leb 1 k && leb k 64 && leb m 4096) ≡ true → InRange n k m
+ranged n k m t = record {
   some-place = grind (arith, tells);
   few-places = grind (arith, tells);
   some-district = grind (arith, tells);
   few-districts = grind (arith, tells);
   few-roads = grind (arith, tells);
 }
+
+pub in-range : (b : List ℕ) → counts b ≡ None → InRange (places b) (districts b) (roads b)
+in-range b e = ranged (places b) (districts b) (roads b) (passes _ _ e)
 
 -- The facts of an accepted cartridge.
 pub record Facts (b : List ℕ) : Type 0 where
@@ -83,7 +86,8 @@ walked-there b offset (f ∷ fs) h e =
     let k = both-pass (field b offset (f .0) (f .1)) (walked b (offset + 3 + f .1) fs) e in
     walked-there b (offset + 3 + f .1) fs (field-there b offset (f .0) (f .1) (k .0)) (k .1)
 
-all-there : (b : List ℕ) → fields b ≡ None → whole b ≤ length b
+pub all-there : (b : List ℕ) → fields b ≡ None → whole b ≤ length b
+unfolding fields
 all-there b e = let h = walked-there b 0 ((1, 5) ∷ (2, places b) ∷ (3, 8 * roads b) ∷ (4, 2 * roads b) ∷ (15, 0) ∷ []) (omega arith) e in omega arith
 
 pub facts : (b : List ℕ) → judged b ≡ None → Facts b
@@ -96,12 +100,23 @@ facts b e =
     let c4 = both-pass (right-roads b) (right-arrivals b) (c3 .1) in
     record {
       long = all-there b (c .0);
-      range = in-range (places b) (districts b) (roads b) (passes _ _ (c1 .0));
+      range = in-range b (c1 .0);
       known = λ p l. ltb-true _ _ (all-pass (λ p. ltb (district-of b p) (districts b)) (places b) _ (c2 .0) p l);
       inhabited = all-pass (has-place b) (districts b) _ (c3 .0);
       road = all-pass (right-road b) (roads b) _ (c4 .0);
       arrival = all-pass (right-arrival b) (roads b) _ (c4 .1);
     }
+
+-- what is accepted has nothing wrong with it, and the other way round
+unrefused : (o : Option Refusal) → not (isSome o) ≡ true → o ≡ None
+unrefused None e = refl
+unrefused (Some r) e = let z : _≡_ {A = ℕ} 0 1 = cc in absurd (omega arith)
+
+pub accepted-facts : (b : List ℕ) → accepts b ≡ true → Facts b
+accepted-facts b e = facts b (unrefused (judged b) e)
+
+pub none-accepted : (b : List ℕ) → judged b ≡ None → accepts b ≡ true
+none-accepted b e = rw e
 
 -- The limits of a road, as facts.
 pub record Limits (n : ℕ) (x : Road) : Type 0 where

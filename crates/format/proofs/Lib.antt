@@ -3,3 +3,4 @@ pub mod Pigeons
 pub mod Rising
 pub mod Accepted
 pub mod Sound
+pub mod Verdicts

@@ -16,11 +16,11 @@ use Rattle.map.specs.declared.roads.Road.{Road}
 use Rattle.map.specs.Model.{MapModel, WellFormed, RoadFits, Lists, Touches, Stands, Inhabited}
 use Rattle.format.specs.Bytes.{places, districts, roads}
 use Rattle.format.specs.Picks.{picked, first}
-use Rattle.format.specs.Reading.{judged, map-in, district-of, has-place, road-of, arrival-of, arriving}
+use Rattle.format.specs.Reading.{accepts, map-in, district-of, has-place, road-of, arrival-of, arriving}
 use Rattle.format.proofs.Picks.{In, Rising, found-in, picked-passing, picked-complete, picked-rising}
 use Rattle.format.proofs.Pigeons.{Injects, Takes, all-taken}
 use Rattle.format.proofs.Rising.{apart}
-use Rattle.format.proofs.Accepted.{Facts, facts, road-limits, roads-rise, arrival-known, arrivals-rise}
+use Rattle.format.proofs.Accepted.{Facts, accepted-facts, road-limits, roads-rise, arrival-known, arrivals-rise}
 
 -- a rising list names nothing twice
 rising-once : (l : List ℕ) → Rising l → (i j : ℕ) → i < length l → j < length l → getD l i 0 ≡ getD l j 0 → i ≡ j
@@ -141,6 +141,6 @@ module _ (b : List ℕ) (f : Facts b) where
     arrives = λ p l. arrivals-list p;
   }
 
--- A cartridge that is not refused holds a map that keeps the rules.
-pub accepted-keeps-rules : (b : List ℕ) → judged b ≡ None → WellFormed (map-in b)
-accepted-keeps-rules b e = well-formed b (facts b e)
+-- A cartridge that is accepted holds a map that keeps the rules.
+pub accepted-keeps-rules : (b : List ℕ) → accepts b ≡ true → WellFormed (map-in b)
+accepted-keeps-rules b e = well-formed b (accepted-facts b e)

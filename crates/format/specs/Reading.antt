@@ -26,6 +26,11 @@ and-then None next = next
 abbrev pub unless : Bool → Refusal → Option Refusal
 unless passes r = cond passes None (Some r)
 
+-- What a check answers by a judgement: a value, if nothing is wrong.
+abbrev pub verdict : {A : Type 0} → Option Refusal → A → Result A Refusal
+verdict None x = Ok x
+verdict (Some r) x = Err r
+
 -- The field at an offset has this tag and this length, and a body of that length.
 abbrev pub field : List ℕ → ℕ → ℕ → ℕ → Option Refusal
 field b offset tag size =
@@ -40,7 +45,7 @@ walked b offset [] = unless (leb (length b) offset) (WrongTag offset)
 walked b offset (f ∷ rest) = and-then (field b offset (f .0) (f .1)) (walked b (offset + 3 + f .1) rest)
 
 -- The five fields of a cartridge: counts, districts, roads, arrivals and the end mark.
-abbrev pub fields : List ℕ → Option Refusal
+unfoldable pub fields : List ℕ → Option Refusal
 fields b = walked b 0 ((1, 5) ∷ (2, places b) ∷ (3, 8 * roads b) ∷ (4, 2 * roads b) ∷ (15, 0) ∷ [])
 
 -- 1 to 1,024 places, 1 to 64 districts, at most 4,096 roads.
@@ -125,6 +130,10 @@ contents b = and-then (counts b) (and-then (known-districts b) (and-then (inhabi
 unfoldable pub judged : List ℕ → Option Refusal
 judged b = and-then (fields b) (contents b)
 
+-- Whether a byte string is a cartridge.
+abbrev pub accepts : List ℕ → Bool
+accepts b = not (isSome (judged b))
+
 -- The map in a cartridge. All its roads are open; departures stand in the order of road numbers, arrivals in that of
 -- their field.
 abbrev pub map-in : List ℕ → MapModel
@@ -140,4 +149,4 @@ map-in b = record {
 
 -- What reading a byte string gives.
 abbrev pub read : List ℕ → Result MapModel Refusal
-read b = elim (judged b) [ None ↦ Ok (map-in b) | Some r ↦ Err r ]
+read b = verdict (judged b) (map-in b)

@@ -1,0 +1,10 @@
+use Prim.Native.Nat.{ℕ, _<_, _≤_}
+use mathlib.Core.Path.{_≡_}
+use mathlib.Core.Bool.{Bool, true, false, not}
+use lib.Dec.{eqb, ltb}
+use Rattle.format.specs.Bytes.{districts}
+use Rattle.format.specs.Reading.{district-of, has-place, right-road, right-arrival, previous, road-of, arriving}
+use Rattle.cartridge.proofs.judge.check_inhabited.Given as given
+
+abbrev pub Inv-loop-d : given.InvT-loop-d
+Inv-loop-d l = (i : ℕ) → 0 ≤ i → i < l .d → not (has-place (l .bytes) i) ≡ false
