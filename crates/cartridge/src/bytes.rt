@@ -3,7 +3,7 @@ ghost use mathlib.Core.Path.{_≡_};
 ghost use Prim.Native.Nat.{ℕ, _+_, _*_, _<_, _≤_};
 ghost use lib.ListN.{length};
 ghost use Rattle.format.specs.Bytes.{number, places, districts, roads, roads-at, arrivals-at};
-ghost use Rattle.format.specs.Reading.{road-of, arrival-of};
+ghost use Rattle.format.specs.Reading.{district-of, road-of, arrival-of};
 use fringe::Place;
 use map::Mark;
 use map::Road;
@@ -43,6 +43,14 @@ pub(crate) fn road_count(bytes: &[u8]) -> usize
     usize::from(two_bytes(bytes, 6))
 }
 
+/// The district of a place, whose byte is there.
+pub(crate) fn district_at(bytes: &[u8], p: usize) -> u8
+    requires { ⌜ 11 + p < length (now bytes) ⌝ }
+    ensures { λ r. ⌜ r ≡ district-of (now (bytes .entry)) p ⌝ }
+{
+    bytes[11 + p]
+}
+
 /// The record of a road: eight bytes, all of which are there.
 pub(crate) fn road_at(bytes: &[u8], r: usize) -> Road
     requires { ⌜ roads-at (now bytes) + 8 * r + 8 ≤ length (now bytes) ⌝ }
@@ -63,5 +71,8 @@ pub(crate) fn arrival_at(bytes: &[u8], i: usize) -> u16
     requires { ⌜ arrivals-at (now bytes) + 2 * i + 2 ≤ length (now bytes) ⌝ }
     ensures { λ r. ⌜ r ≡ arrival-of (now (bytes .entry)) i ⌝ }
 {
-    two_bytes(bytes, 17 + place_count(bytes) + 8 * road_count(bytes) + 2 * i)
+    two_bytes(
+        bytes,
+        17 + place_count(bytes) + 8 * road_count(bytes) + 2 * i,
+    )
 }

@@ -6,6 +6,7 @@ ghost use lib.ListN.{length};
 ghost use Rattle.format.specs.Bytes.{whole, roads};
 ghost use Rattle.format.specs.Reading.{verdict, field, fields, counts, known-districts, inhabited-districts, has-place, within-limits, before, rises-by-start, rises-by-end, right-roads, right-arrivals, judged};
 use crate::bytes::arrival_at;
+use crate::bytes::district_at;
 use crate::bytes::district_count;
 use crate::bytes::place_count;
 use crate::bytes::road_at;
@@ -71,7 +72,12 @@ fn check_counts(bytes: &[u8]) -> Result<(), Refusal>
 {
     let places = place_count(bytes);
     let districts = district_count(bytes);
-    if places >= 1 && places <= 1024 && districts >= 1 && districts <= 64 && road_count(bytes) <= 4096 {
+    if places >= 1
+        && places <= 1024
+        && districts >= 1
+        && districts <= 64
+        && road_count(bytes) <= 4096
+    {
         Ok(())
     } else {
         Err(Refusal::WrongCount(0))
@@ -85,7 +91,7 @@ fn check_districts(bytes: &[u8]) -> Result<(), Refusal>
 {
     let districts = district_count(bytes);
     for p in 0..place_count(bytes) {
-        if usize::from(bytes[11 + p]) >= districts {
+        if usize::from(district_at(bytes, p)) >= districts {
             return Err(Refusal::NoSuchDistrict(Place(p as u16)));
         }
     }
@@ -111,7 +117,7 @@ fn has_place(bytes: &[u8], district: u8) -> bool
     ensures { λ r. ⌜ r ≡ has-place (now (bytes .entry)) district ⌝ }
 {
     for p in 0..place_count(bytes) {
-        if bytes[11 + p] == district {
+        if district_at(bytes, p) == district {
             return true;
         }
     }

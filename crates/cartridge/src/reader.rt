@@ -4,6 +4,7 @@ ghost use denote.Ref.{now as behind};
 ghost use Rattle.format.specs.Reading.{map-in};
 ghost use Rattle.cartridge.specs.Reads.{blank-bytes, Reads};
 ghost use Rattle.format.proofs.Sound.{accepted-keeps-rules};
+use crate::bytes::district_at;
 use crate::bytes::district_count;
 use crate::bytes::place_count;
 use crate::bytes::road_at;
@@ -20,7 +21,29 @@ use map::Road;
 use map::RoadId;
 
 /// The smallest cartridge: one place in one district, and no road.
-static BLANK: [u8; 21] = [1, 0, 5, 0, 1, 1, 0, 0, 2, 0, 1, 0, 3, 0, 0, 4, 0, 0, 15, 0, 0];
+static BLANK: [u8; 21] = [
+    1,
+    0,
+    5,
+    0,
+    1,
+    1,
+    0,
+    0,
+    2,
+    0,
+    1,
+    0,
+    3,
+    0,
+    0,
+    4,
+    0,
+    0,
+    15,
+    0,
+    0,
+];
 
 impl<'a> Cartridge<'a> {
     /// A cartridge with one place and no road, for another to be read into.
@@ -60,7 +83,7 @@ pub impl<'a> Map for Cartridge<'a> as CartridgeMap {
     fn district(&self, place: Place) -> Option<District> {
         let p = usize::from(place.0);
         if p < place_count(self.bytes) {
-            Some(District(self.bytes[11 + p]))
+            Some(District(district_at(self.bytes, p)))
         } else {
             None
         }

@@ -10,10 +10,21 @@ use survey::roads_leaving;
 
 /// Prints the counts of a map, and for each district those of its places and of the roads that leave it.
 fn print_survey<M: Map>(rt: &LibcRuntime, map: &M) -> Result<(), AnyError> {
-    println!(rt, "{} places, {} districts, {} roads", map.places(), map.districts(), map.roads())?;
+    println!(
+        rt,
+        "{} places, {} districts, {} roads",
+        map.places(),
+        map.districts(),
+        map.roads()
+    )?;
     for d in 0..map.districts() {
         let district = District(d as u8);
-        println!(rt, "district {d}: {} places, {} roads leave it", places_in(map, district), roads_leaving(map, district))?;
+        println!(
+            rt,
+            "district {d}: {} places, {} roads leave it",
+            places_in(map, district),
+            roads_leaving(map, district)
+        )?;
     }
     Ok(())
 }

@@ -41,9 +41,10 @@ pub loop-i-again : need.loop-i-again
 loop-i-again c =
     let b = c .args .bytes .now in
     let e = c .road-at-road .ensures ∙ ap (road-of b) (c .from-number .ensures ∙ c .arrival-at .ensures) in
-    let t = not-from-true _ (judged-arrival b (c .loop-i .i) _ _ true (omega arith) (c .loop-i .inv .1) e (c .if-not-arrives-later .ensures tt)) in
-    ((λ i l u. below-more (λ i. 0 ≤ i → not (right-arrival b i) ≡ false) (c .loop-i .i) (λ i u l. c .loop-i .inv .0 i l u) (λ l. t) i u l),
-     rw add-one (ap Some e))
+    let t = not-from-true _ (judged-arrival b (c .loop-i .i) _ _ true (omega arith) (c .loop-i .inv .1) e (c .if-not-arrives-later .ensures tt)) in (
+      (λ i l u. below-more (λ i. 0 ≤ i → not (right-arrival b i) ≡ false) (c .loop-i .i) (λ i u l. c .loop-i .inv .0 i l u) (λ l. t) i u l),
+      rw add-one (ap Some e),
+    )
 
 pub returns : need.returns
 returns c =

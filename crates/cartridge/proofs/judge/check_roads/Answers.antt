@@ -29,9 +29,10 @@ returns-then-not-may-follow c =
 pub loop-r-again : need.loop-r-again
 loop-r-again c =
     let b = c .args .bytes .now in
-    let t = not-from-true _ (judged-road b (c .loop-r .r) _ _ _ true (c .place-count-places .ensures .count) (c .loop-r .inv .1) (c .road-at-road .ensures) (c .if-not-may-follow .ensures tt)) in
-    ((λ i l u. below-more (λ i. 0 ≤ i → not (right-road b i) ≡ false) (c .loop-r .r) (λ i u l. c .loop-r .inv .0 i l u) (λ l. t) i u l),
-     rw add-one (ap Some (c .road-at-road .ensures)))
+    let t = not-from-true _ (judged-road b (c .loop-r .r) _ _ _ true (c .place-count-places .ensures .count) (c .loop-r .inv .1) (c .road-at-road .ensures) (c .if-not-may-follow .ensures tt)) in (
+      (λ i l u. below-more (λ i. 0 ≤ i → not (right-road b i) ≡ false) (c .loop-r .r) (λ i u l. c .loop-r .inv .0 i l u) (λ l. t) i u l),
+      rw add-one (ap Some (c .road-at-road .ensures)),
+    )
 
 pub returns : need.returns
 returns c =

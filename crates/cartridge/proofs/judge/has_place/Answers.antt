@@ -9,8 +9,8 @@ use Rattle.format.specs.Reading.{district-of}
 use Rattle.format.proofs.Verdicts.{stops-at, runs-out}
 use Rattle.cartridge.proofs.judge.has_place.Needs as need
 
-pub returns-then-bytes-p : need.returns-then-bytes-p
-returns-then-bytes-p c =
+pub returns-then-district-at-district : need.returns-then-district-at-district
+returns-then-district-at-district c =
     let b = c .args .bytes .now in
     sym (ap isSome (stops-at (λ p. eqb (district-of b p) (c .args .district)) (places b) (c .loop-p .p) (omega arith) (grind (arith, tells)) (c .loop-p .inv)))
 

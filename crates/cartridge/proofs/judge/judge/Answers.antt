@@ -90,7 +90,8 @@ check-inhabited-requires c κs = there _ (c .in-Continue-walk .ensures tt)
 pub check-roads-requires : need.check-roads-requires
 check-roads-requires c κs = record {
   there = there _ (c .in-Continue-walk .ensures tt);
-  few = in-range (c .args .bytes .now) (goes-on (counts (c .args .bytes .now)) tt tt (c .in-Continue-check-counts .ensures tt) .0) .few-roads }
+  few = in-range (c .args .bytes .now) (goes-on (counts (c .args .bytes .now)) tt tt (c .in-Continue-check-counts .ensures tt) .0) .few-roads;
+}
 
 pub check-arrivals-requires : need.check-arrivals-requires
 check-arrivals-requires c κs = there _ (c .in-Continue-walk .ensures tt)
