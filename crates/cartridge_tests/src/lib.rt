@@ -9,7 +9,7 @@ mod tests {
     use std::alloc::Global;
     use std::test::*;
 
-    /// Six places in the districts 0 0 1 1 1 2, and eight roads.
+    // Six places in the districts 0 0 1 1 1 2, and eight roads.
     const SAMPLE: [u8; 106] = [
         1,
         0,
@@ -119,7 +119,7 @@ mod tests {
         0,
     ];
 
-    /// The number and payload with which bytes are refused; 0 where they are accepted.
+    // The number and payload with which bytes are refused; 0 where they are accepted.
     fn refusal(bytes: &[u8]) -> (u8, usize) {
         let mut mine = Cartridge::blank();
         match mine.read(bytes) {
@@ -128,7 +128,7 @@ mod tests {
         }
     }
 
-    /// A cartridge of so many places in one district, and no road.
+    // A cartridge of so many places in one district, and no road.
     fn roadless(heap: Global, places: u16) -> Result<Vec<u8>, Fail> {
         let count = places.to_be_bytes();
         let mut bytes = Vec::new(heap);
@@ -143,7 +143,7 @@ mod tests {
         Ok(bytes)
     }
 
-    /// The road number at a place of a list, 99 where there is none.
+    // The road number at a place of a list, 99 where there is none.
     fn listed(mine: &Cartridge<'_>, out: bool, place: u16, j: usize) -> u16 {
         let road = if out {
             mine.departure(Place(place), j)

@@ -1,3 +1,5 @@
 pub mod Orders
+pub mod Pairs
 pub mod Fringes
+pub mod Drains
 pub mod Refusals

@@ -1,0 +1,5 @@
+pub mod Entries
+pub mod Readings
+pub mod Refusals
+pub mod Slowdowns
+pub mod Tables

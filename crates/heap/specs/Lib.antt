@@ -1,0 +1,4 @@
+pub mod Heaps
+pub mod Indexes
+pub mod Bounds
+pub mod Sifts

@@ -1,0 +1,8 @@
+use Rattle.layers.proofs.Slowing.{clearing}
+use Rattle.layers.proofs.slowdowns.Slowdowns.leave.Needs as need
+
+pub returns : need.returns
+returns g c =
+    let self = c .args .self .now in
+    clearing (g .G·Map .model (self .below)) (g .G·Map .sound (self .below)) (c .args .road) (c .pre) self (c .remove .last .self) (c .remove .result)
+    (c .remove .ensures .answer) (c .remove .ensures .after)

@@ -1,0 +1,3 @@
+pub mod Closures
+pub mod Histories
+pub mod Slowdowns
