@@ -186,33 +186,53 @@ fn drive<C: Drawn, F: Fringe<C>>(fringe: &mut F, row: &mut [Option<C>], out: &mu
     differ.saturating_add(drain_both(fringe, row, out))
 }
 
-/// Drives a heap over memory that holds anything before.
-fn drive_heap<C: Drawn>() -> u32 {
-    let some = (Place(9), C::drawn(3));
-    let mut entries = [some; 60];
+/// Drives a heap over these entries.
+fn drive_heap<C: Drawn>(entries: &mut [(Place, C)], row: &mut [Option<C>], out: &mut [(Place, C)]) -> u32 {
     let mut positions = [5u16; 70];
-    let mut row: [Option<C>; 60] = [None; 60];
-    let mut out = [some; 64];
-    drive(&mut Heap::new(&mut entries, &mut positions), &mut row, &mut out)
+    drive(&mut Heap::new(entries, &mut positions), row, out)
 }
 
-/// Drives a winner tree over memory that holds anything before.
-fn drive_winner_tree<C: Drawn>() -> u32 {
-    let some = (Place(9), C::drawn(3));
-    let mut costs = [Some(some.1); 60];
-    let mut winners = [Some(some); 70];
-    let mut row: [Option<C>; 60] = [None; 60];
-    let mut out = [some; 64];
-    drive(&mut WinnerTree::new(&mut costs, &mut winners), &mut row, &mut out)
+/// Drives a winner tree over these costs and matches.
+fn drive_tree<C: Drawn>(
+    costs: &mut [Option<C>],
+    winners: &mut [Option<(Place, C)>],
+    row: &mut [Option<C>],
+    out: &mut [(Place, C)],
+) -> u32 {
+    drive(&mut WinnerTree::new(costs, winners), row, out)
+}
+
+/// How often a heap and a winner tree differ from a plain scan at times.
+fn at_times() -> (u32, u32) {
+    let some = (Place(9), Time(3));
+    let heap = drive_heap(&mut [some; 60], &mut [None; 60], &mut [some; 64]);
+    let tree = drive_tree(&mut [Some(some.1); 60], &mut [Some(some); 70], &mut [None; 60], &mut [some; 64]);
+    (heap, tree)
+}
+
+/// The same at steepnesses.
+fn at_steepnesses() -> (u32, u32) {
+    let some = (Place(9), Steepness(3));
+    let heap = drive_heap(&mut [some; 60], &mut [None; 60], &mut [some; 64]);
+    let tree = drive_tree(&mut [Some(some.1); 60], &mut [Some(some); 70], &mut [None; 60], &mut [some; 64]);
+    (heap, tree)
+}
+
+/// The same at pairs.
+fn at_pairs() -> (u32, u32) {
+    let some = (Place(9), Pair { first: 65_535, second: 3 });
+    let heap = drive_heap(&mut [some; 60], &mut [None; 60], &mut [some; 64]);
+    let tree = drive_tree(&mut [Some(some.1); 60], &mut [Some(some); 70], &mut [None; 60], &mut [some; 64]);
+    (heap, tree)
 }
 
 fn run(rt: &LibcRuntime) -> Result<(), AnyError> {
-    println!(rt, "heap, time: {} of {CALLS} calls differ", drive_heap::<Time>())?;
-    println!(rt, "heap, steepness: {} of {CALLS} calls differ", drive_heap::<Steepness>())?;
-    println!(rt, "heap, pairs: {} of {CALLS} calls differ", drive_heap::<Pair>())?;
-    println!(rt, "winner tree, time: {} of {CALLS} calls differ", drive_winner_tree::<Time>())?;
-    println!(rt, "winner tree, steepness: {} of {CALLS} calls differ", drive_winner_tree::<Steepness>())?;
-    println!(rt, "winner tree, pairs: {} of {CALLS} calls differ", drive_winner_tree::<Pair>())?;
+    let (heap, tree) = at_times();
+    println!(rt, "time: of {CALLS} calls {heap} differ at the heap, {tree} at the winner tree")?;
+    let (heap, tree) = at_steepnesses();
+    println!(rt, "steepness: of {CALLS} calls {heap} differ at the heap, {tree} at the winner tree")?;
+    let (heap, tree) = at_pairs();
+    println!(rt, "pairs: of {CALLS} calls {heap} differ at the heap, {tree} at the winner tree")?;
     Ok(())
 }
 
