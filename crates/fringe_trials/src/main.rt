@@ -2,9 +2,9 @@
 use fringe::Fringe;
 use fringe::Order;
 use fringe::Pair;
-use fringe::pairs::PairOrder;
 use fringe::Place;
 use fringe::drain;
+use fringe::pairs::PairOrder;
 use heap::Heap;
 use heap::HeapFringe;
 use measure::Steepness;
@@ -52,7 +52,10 @@ impl Drawn for Steepness as SteepnessDrawn {
 impl Drawn for Pair as PairDrawn {
     // Among the firsts is 65,535, under which the second counts for nothing.
     fn drawn(n: u32) -> Pair {
-        Pair { first: (65_533 + n % 3) as u16, second: n / 3 % 7 }
+        Pair {
+            first: (65_533 + n % 3) as u16,
+            second: n / 3 % 7,
+        }
     }
 }
 
@@ -76,7 +79,11 @@ fn held<C: Copy>(row: &[Option<C>], p: usize) -> Option<C> {
 }
 
 /// The better of the best so far and what is held at a later place.
-fn better<C: Order + Copy>(best: Option<(Place, C)>, place: Place, cost: Option<C>) -> Option<(Place, C)> {
+fn better<C: Order + Copy>(
+    best: Option<(Place, C)>,
+    place: Place,
+    cost: Option<C>,
+) -> Option<(Place, C)> {
     let Some(c) = cost else {
         return best;
     };
@@ -136,7 +143,11 @@ fn leave<C: Copy>(row: &mut [Option<C>], taken: Option<(Place, C)>) {
 }
 
 /// Makes one call, chosen by the dice, of the fringe and of the row; answers whether they agree.
-fn call_both<C: Drawn, F: Fringe<C>>(fringe: &mut F, row: &mut [Option<C>], dice: &mut Dice) -> bool {
+fn call_both<C: Drawn, F: Fringe<C>>(
+    fringe: &mut F,
+    row: &mut [Option<C>],
+    dice: &mut Dice,
+) -> bool {
     let choice = dice.roll() % 100;
     if choice == 0 {
         fringe.clear();
@@ -157,11 +168,19 @@ fn call_both<C: Drawn, F: Fringe<C>>(fringe: &mut F, row: &mut [Option<C>], dice
 
 /// The entry at an index, of those that count.
 fn written<C: Copy>(out: &[(Place, C)], count: usize, i: usize) -> Option<(Place, C)> {
-    if i < count && i < out.len() { Some(out[i]) } else { None }
+    if i < count && i < out.len() {
+        Some(out[i])
+    } else {
+        None
+    }
 }
 
 /// Drains the fringe and the row; answers how often they differ.
-fn drain_both<C: Drawn, F: Fringe<C>>(fringe: &mut F, row: &mut [Option<C>], out: &mut [(Place, C)]) -> u32 {
+fn drain_both<C: Drawn, F: Fringe<C>>(
+    fringe: &mut F,
+    row: &mut [Option<C>],
+    out: &mut [(Place, C)],
+) -> u32 {
     let count = drain(fringe, out);
     let mut differ = 0u32;
     for i in 0..out.len() {
@@ -175,7 +194,11 @@ fn drain_both<C: Drawn, F: Fringe<C>>(fringe: &mut F, row: &mut [Option<C>], out
 }
 
 /// Drives a fringe; answers how often it differs from a plain scan.
-fn drive<C: Drawn, F: Fringe<C>>(fringe: &mut F, row: &mut [Option<C>], out: &mut [(Place, C)]) -> u32 {
+fn drive<C: Drawn, F: Fringe<C>>(
+    fringe: &mut F,
+    row: &mut [Option<C>],
+    out: &mut [(Place, C)],
+) -> u32 {
     let mut dice = Dice(7);
     let mut differ = 0u32;
     for _ in 0..CALLS {
@@ -187,7 +210,11 @@ fn drive<C: Drawn, F: Fringe<C>>(fringe: &mut F, row: &mut [Option<C>], out: &mu
 }
 
 /// Drives a heap over these entries.
-fn drive_heap<C: Drawn>(entries: &mut [(Place, C)], row: &mut [Option<C>], out: &mut [(Place, C)]) -> u32 {
+fn drive_heap<C: Drawn>(
+    entries: &mut [(Place, C)],
+    row: &mut [Option<C>],
+    out: &mut [(Place, C)],
+) -> u32 {
     let mut positions = [5u16; 70];
     drive(&mut Heap::new(entries, &mut positions), row, out)
 }
@@ -206,7 +233,12 @@ fn drive_tree<C: Drawn>(
 fn at_times() -> (u32, u32) {
     let some = (Place(9), Time(3));
     let heap = drive_heap(&mut [some; 60], &mut [None; 60], &mut [some; 64]);
-    let tree = drive_tree(&mut [Some(some.1); 60], &mut [Some(some); 70], &mut [None; 60], &mut [some; 64]);
+    let tree = drive_tree(
+        &mut [Some(some.1); 60],
+        &mut [Some(some); 70],
+        &mut [None; 60],
+        &mut [some; 64],
+    );
     (heap, tree)
 }
 
@@ -214,25 +246,50 @@ fn at_times() -> (u32, u32) {
 fn at_steepnesses() -> (u32, u32) {
     let some = (Place(9), Steepness(3));
     let heap = drive_heap(&mut [some; 60], &mut [None; 60], &mut [some; 64]);
-    let tree = drive_tree(&mut [Some(some.1); 60], &mut [Some(some); 70], &mut [None; 60], &mut [some; 64]);
+    let tree = drive_tree(
+        &mut [Some(some.1); 60],
+        &mut [Some(some); 70],
+        &mut [None; 60],
+        &mut [some; 64],
+    );
     (heap, tree)
 }
 
 /// The same at pairs.
 fn at_pairs() -> (u32, u32) {
-    let some = (Place(9), Pair { first: 65_535, second: 3 });
+    let some = (
+        Place(9),
+        Pair {
+            first: 65_535,
+            second: 3,
+        },
+    );
     let heap = drive_heap(&mut [some; 60], &mut [None; 60], &mut [some; 64]);
-    let tree = drive_tree(&mut [Some(some.1); 60], &mut [Some(some); 70], &mut [None; 60], &mut [some; 64]);
+    let tree = drive_tree(
+        &mut [Some(some.1); 60],
+        &mut [Some(some); 70],
+        &mut [None; 60],
+        &mut [some; 64],
+    );
     (heap, tree)
 }
 
 fn run(rt: &LibcRuntime) -> Result<(), AnyError> {
     let (heap, tree) = at_times();
-    println!(rt, "time: of {CALLS} calls {heap} differ at the heap, {tree} at the winner tree")?;
+    println!(
+        rt,
+        "time: of {CALLS} calls {heap} differ at the heap, {tree} at the winner tree"
+    )?;
     let (heap, tree) = at_steepnesses();
-    println!(rt, "steepness: of {CALLS} calls {heap} differ at the heap, {tree} at the winner tree")?;
+    println!(
+        rt,
+        "steepness: of {CALLS} calls {heap} differ at the heap, {tree} at the winner tree"
+    )?;
     let (heap, tree) = at_pairs();
-    println!(rt, "pairs: of {CALLS} calls {heap} differ at the heap, {tree} at the winner tree")?;
+    println!(
+        rt,
+        "pairs: of {CALLS} calls {heap} differ at the heap, {tree} at the winner tree"
+    )?;
     Ok(())
 }
 

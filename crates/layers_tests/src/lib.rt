@@ -3,12 +3,12 @@
 mod tests {
     use cartridge::Cartridge;
     use cartridge::CartridgeMap;
-    use layers::Refusal;
     use grid::Grid;
     use grid::GridMap;
     use layers::Closures;
-    use layers::closures::ClosuresMap;
+    use layers::Refusal;
     use layers::Slowdowns;
+    use layers::closures::ClosuresMap;
     use layers::slowdowns::SlowdownsMap;
     use map::Map;
     use map::Mark;
@@ -17,8 +17,48 @@ mod tests {
 
     // Two places joined both ways: road 0 takes 10 seconds, road 1 takes 20.
     const PAIR: [u8; 42] = [
-        1, 0, 5, 0, 2, 1, 0, 2, 2, 0, 2, 0, 0, 3, 0, 16, 0, 0, 0, 1, 0, 10, 0, 5, 0, 1, 0, 0, 0, 20, 0, 5, 4, 0, 4, 0,
-        1, 0, 0, 15, 0, 0,
+        1,
+        0,
+        5,
+        0,
+        2,
+        1,
+        0,
+        2,
+        2,
+        0,
+        2,
+        0,
+        0,
+        3,
+        0,
+        16,
+        0,
+        0,
+        0,
+        1,
+        0,
+        10,
+        0,
+        5,
+        0,
+        1,
+        0,
+        0,
+        0,
+        20,
+        0,
+        5,
+        4,
+        0,
+        4,
+        0,
+        1,
+        0,
+        0,
+        15,
+        0,
+        0,
     ];
 
     // The number of a refusal, or 0.

@@ -29,8 +29,16 @@ fn print_survey<M: Map>(rt: &LibcRuntime, map: &M) -> Result<(), AnyError> {
     Ok(())
 }
 
+/// The bytes of the cartridge.
+fn load(rt: &LibcRuntime) -> Result<Vec<u8>, AnyError> {
+    match fs::read(rt, "MINE.MAP") {
+        Ok(bytes) => Ok(bytes),
+        Err(_) => Err("MINE.MAP cannot be read".into()),
+    }
+}
+
 fn run(rt: &LibcRuntime) -> Result<(), AnyError> {
-    let bytes = fs::read(rt, "MINE.MAP")?;
+    let bytes = load(rt)?;
     let mut mine = Cartridge::blank();
     match mine.read(&bytes) {
         Ok(()) => print_survey(rt, &mine),
