@@ -7,8 +7,9 @@ use fringe::order::Order;
 /// An order whose values are costs: a cost for each road, a sum, a zero, and a cost called blocked, above all others.
 ///
 /// The members say what the functions of like meaning return, on the values as they are stored: `plus` is the sum,
-/// `nil` the zero, `top` blocked, `cost` a road's cost by its seconds and steepness, and `code` a cost's number. What
-/// they have to keep, `CostLaws`, is promised by `zero` and by `add`, so that code over any measure has it from a call.
+/// `nil` the zero, `top` blocked, `cost` a road's cost by its seconds and steepness, `code` a cost's number, and
+/// `decoded` the cost of a number. What they have to keep, `CostLaws`, is promised by `zero` and by `add`, so that code
+/// over any measure has it from a call.
 pub trait Measure: Order + Sized {
     ghost plus: { Self → Self → Self };
 
@@ -19,6 +20,8 @@ pub trait Measure: Order + Sized {
     ghost cost: { ℕ → ℕ → Self };
 
     ghost code: { Self → ℕ };
+
+    ghost decoded: { ℕ → Self };
 
     /// The cost of no road at all.
     fn zero() -> Self
@@ -44,5 +47,6 @@ pub trait Measure: Order + Sized {
 
     /// The cost that was written down as `n`, if one was.
     fn from_number(n: u64) -> Self
+        ensures exact { λ r. ⌜ r ≡ decoded n ⌝ }
         ensures back { λ r. ⌜ ((a : Self) → code a ≡ n → Self·Order .thing r ≡ Self·Order .thing a) ⌝ };
 }

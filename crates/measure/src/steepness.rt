@@ -35,6 +35,8 @@ pub impl Measure for Steepness as SteepnessMeasure {
 
     ghost code = { per-mille-of };
 
+    ghost decoded = { λ n. steep (min n 65535) };
+
     fn zero() -> Steepness {
         lawful();
         Steepness(0)
@@ -57,10 +59,7 @@ pub impl Measure for Steepness as SteepnessMeasure {
         u64::from(self.0)
     }
 
-    fn from_number(n: u64) -> Steepness
-        ensures back { λ r. ⌜ ((a : Steepness) → per-mille-of a ≡ n → per-mille-of r ≡ per-mille-of a) ⌝ }
-        ensures exact { λ r. ⌜ r ≡ steep (min n 65535) ⌝ }
-    {
+    fn from_number(n: u64) -> Steepness {
         Steepness(n.min(u64::from(u16::MAX)) as u16)
     }
 }

@@ -34,6 +34,8 @@ pub impl Measure for Time as TimeMeasure {
 
     ghost code = { seconds-of };
 
+    ghost decoded = { λ n. time (min n 4294967295) };
+
     fn zero() -> Time {
         lawful();
         Time(0)
@@ -56,10 +58,7 @@ pub impl Measure for Time as TimeMeasure {
         u64::from(self.0)
     }
 
-    fn from_number(n: u64) -> Time
-        ensures back { λ r. ⌜ ((a : Time) → seconds-of a ≡ n → seconds-of r ≡ seconds-of a) ⌝ }
-        ensures exact { λ r. ⌜ r ≡ time (min n 4294967295) ⌝ }
-    {
+    fn from_number(n: u64) -> Time {
         Time(n.min(u64::from(u32::MAX)) as u32)
     }
 }

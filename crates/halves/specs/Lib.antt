@@ -1,0 +1,5 @@
+pub mod Labels
+pub mod Agreement
+pub mod Settling
+pub mod Expansions
+pub mod Meetings
