@@ -5,3 +5,6 @@ pub mod Settled
 pub mod Departures
 pub mod Spreads
 pub mod Bests
+pub mod ExpandIs
+pub mod MeetingIs
+pub mod NearestIs

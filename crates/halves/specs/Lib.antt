@@ -3,3 +3,4 @@ pub mod Agreement
 pub mod Settling
 pub mod Expansions
 pub mod Meetings
+pub mod Views

@@ -1,10 +1,12 @@
 //! The steps of one side of a search, over any measure, map and fringe, with the labels in a lent row.
+pub mod beginning;
 pub mod expanding;
 pub mod meetings;
 pub mod relaxing;
 pub mod rows;
 pub mod settling;
 
+pub use beginning::begin;
 pub use expanding::expand;
 pub use meetings::best_meeting;
 pub use relaxing::relax;

@@ -3,6 +3,7 @@ use mathlib.Core.Bool.{true, false}
 use native.Mathlib.Omega.{arith}
 use lib.ListN.{length}
 use Prim.Native.Nat.{_<_}
+use Rattle.routes.specs.declared.labels.Origin.the-variants.{Road as by-road}
 use Rattle.halves.specs.Labels.{spot, improves}
 use Rattle.halves.proofs.Offers.{spot-read, offer-past, offer-kept, offer-taken, offer-agrees}
 use Rattle.halves.proofs.relaxing.relax.Needs as need
@@ -20,7 +21,7 @@ returns-then-better g c =
     let wins : improves (o .thing) (o .leq) cost (spot labels v) ≡ true = ap (λ x. improves (o .thing) (o .leq) cost x) was ∙ sym (c .if-better .ensures tt) in
     record {
       labels = offer-taken (o .thing) (o .leq) cost (c .args .road) labels i v e inside wins;
-      agree = λ a. offer-agrees (o .thing) (o .leq) cost (c .args .road) labels i v e inside wins a (c .put .ensures .put (a .in-order)) (c .put .ensures .well (a .in-order));
+      agree = λ a. offer-agrees (o .thing) (o .leq) cost (by-road (c .args .road)) labels i v e inside wins a (c .put .ensures .put (a .in-order)) (c .put .ensures .well (a .in-order));
     }
 
 pub returns-else-better : need.returns-else-better
