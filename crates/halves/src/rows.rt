@@ -19,9 +19,9 @@ pub fn blank<C: Copy>(labels: &mut [Label<C>])
 pub fn label_at<C: Copy>(labels: &[Label<C>], place: Place) -> Label<C>
     ensures { λ r. ⌜ r ≡ spot (now (labels .entry)) (place .0) ⌝ }
 {
-    let i = usize::from(place.0);
-    if i < labels.len() {
-        labels[i]
+    let at = usize::from(place.0);
+    if at < labels.len() {
+        labels[at]
     } else {
         Label::Blank
     }

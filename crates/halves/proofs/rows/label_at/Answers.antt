@@ -4,5 +4,5 @@ use Rattle.std.proofs.shelf.Lists.{getD-past}
 use Rattle.routes.specs.declared.labels.Label.the-variants.{Blank}
 use Rattle.halves.proofs.rows.label_at.Needs as need
 
-pub returns-else-i-labels : need.returns-else-i-labels
-returns-else-i-labels g c = sym (getD-past (c .args .labels .now) (c .args .place .0) Blank (omega (arith, c .from-i .ensures)))
+pub returns-else-at-labels : need.returns-else-at-labels
+returns-else-at-labels g c = sym (getD-past (c .args .labels .now) (c .args .place .0) Blank (omega (arith, c .from-at .ensures)))
