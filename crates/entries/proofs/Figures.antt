@@ -1,8 +1,7 @@
 -- What becomes of the figures of a table of slowed roads.
 use mathlib.Core.Path.{_≡_, refl, sym, ap, _∙_}
-use mathlib.Core.List.{List, [], _∷_}
+use mathlib.Core.List.{List}
 use mathlib.Core.Bool.{Bool, true, false, cond}
-use mathlib.Core.Logic.{inl, inr}
 use Prim.Native.Nat.{ℕ, _+_, _<_, _≤_}
 use native.Mathlib.Omega.{arith}
 use lib.Dec.{eqb}
@@ -78,7 +77,7 @@ module _ (t : SlowedRoads) (e : Slowdown) (room : t .len < length (t .entries)) 
   added-reads q = figure-added (t .entries) (t .len) e q room none
 
   pub added-apart : apart slow-road (take (t .len + 1) (set (t .entries) (t .len) e)) ≡ true
-  added-apart = apart-added slow-road (t .entries) (t .len) e room none (t .apart)
+  added-apart = apart-added slow-road (t .entries) (t .len) e room none (t .distinct)
 
   pub added-short : e .seconds ≤ 60000 → (q f : ℕ) → figure-in (take (t .len + 1) (set (t .entries) (t .len) e)) q ≡ Some f → f ≤ 60000
   added-short h q f k = short-set (eqb (slow-road e) q) (e .seconds) f (figure t q) h (t .short q f) (sym (added-reads q) ∙ k)
@@ -96,10 +95,10 @@ module _ (t : SlowedRoads) (i s : ℕ) (e d : Slowdown) (below : i < t .len) (is
   found = let long : length (slowed-list t) ≡ t .len = length-take-le (t .len) (t .entries) (omega (arith, t .few, t .wide)) in (omega arith, same)
 
   pub rewritten-apart : apart slow-road (take (t .len) (set (t .entries) i e)) ≡ true
-  rewritten-apart = apart-rewritten slow-road (t .entries) (t .len) i e same (t .apart)
+  rewritten-apart = apart-rewritten slow-road (t .entries) (t .len) i e same (t .distinct)
 
   reads-own : (q : ℕ) → figure-in (take (t .len) (set (t .entries) i e)) q ≡ cond (eqb (slow-road e) q) (Some s) (figure t q)
-  reads-own q = figure-rewritten (t .entries) (t .len) i e q found (t .apart) ∙ rw (ap (λ (x : Slowdown). x .seconds) is)
+  reads-own q = figure-rewritten (t .entries) (t .len) i e q found (t .distinct) ∙ rw (ap (λ (x : Slowdown). x .seconds) is)
 
   pub rewritten-short : s ≤ 60000 → (q f : ℕ) → figure-in (take (t .len) (set (t .entries) i e)) q ≡ Some f → f ≤ 60000
   rewritten-short h q f k = short-set (eqb (slow-road e) q) s f (figure t q) h (t .short q f) (sym (reads-own q) ∙ k)
@@ -118,10 +117,10 @@ module _ (t : SlowedRoads) (i k : ℕ) (d : Slowdown) (below : i < t .len) (one 
 
   pub dropped-reads : (r : ℕ) → Found slow-road (slowed-list t) r (Some i) →
       (q : ℕ) → figure-in (take k (set (t .entries) i (getD (t .entries) k d))) q ≡ cond (eqb r q) None (figure t q)
-  dropped-reads r f q = figure-dropped (t .entries) (t .len) k i d r q one room (omega arith) f (t .apart)
+  dropped-reads r f q = figure-dropped (t .entries) (t .len) k i d r q one room (omega arith) f (t .distinct)
 
   pub dropped-apart : apart slow-road (take k (set (t .entries) i (getD (t .entries) k d))) ≡ true
-  dropped-apart = apart-dropped slow-road (t .entries) (t .len) k i d one room (t .apart)
+  dropped-apart = apart-dropped slow-road (t .entries) (t .len) k i d one room (t .distinct)
 
   pub dropped-short : (q f : ℕ) → figure-in (take k (set (t .entries) i (getD (t .entries) k d))) q ≡ Some f → f ≤ 60000
   dropped-short q f e =

@@ -1,7 +1,7 @@
 -- What becomes of a list of entries when one is added at its end, rewritten, or taken out by moving the last into its place.
 use mathlib.Core.Path.{_≡_, refl, sym, ap, subst, _∙_}
 use mathlib.Core.List.{List, [], _∷_, _++_}
-use mathlib.Core.Bool.{Bool, true, false, not, cond, _&&_, _||_}
+use mathlib.Core.Bool.{true, false, not, cond, _||_}
 use mathlib.Core.Logic.{inl, inr}
 use Prim.Native.Nat.{ℕ, zero, suc, _+_, _<_, _≤_}
 use native.Mathlib.Omega.{arith}
@@ -10,7 +10,7 @@ use lib.ListN.{length, getD, take, set}
 use Rattle.std.specs.declared.option.Option.{Option}
 use Rattle.std.specs.declared.option.Option.the-variants.{Some, None}
 use Rattle.std.specs.Options.{isSome}
-use Rattle.std.proofs.shelf.Tests.{true≢false, eq-eqb, ne-eqb, eqb-true, eqb-false, and-parts, and-from, or-from, or-parts, or-right, cases-bool, not-true, not-from-false}
+use Rattle.std.proofs.shelf.Tests.{true≢false, eq-eqb, ne-eqb, eqb-true, and-parts, and-from, or-from, or-parts, or-right, cases-bool, not-true, not-from-false}
 use Rattle.std.proofs.shelf.Lists.{length-push, take-more, take-more-set, getD-default, length-take-le, take-all}
 use Rattle.std.proofs.shelf.Ways.{tells}
 use Rattle.entries.specs.Entries.{has, entry-for, apart, Found}

@@ -1,13 +1,12 @@
 -- A map whose roads are read through the entries of a table keeps the rules of maps.
 use mathlib.Core.Path.{_≡_, refl}
 use mathlib.Core.Bool.{Bool}
-use Prim.Native.Nat.{ℕ, _≤_, max}
+use Prim.Native.Nat.{ℕ, _≤_}
 use native.Mathlib.Omega.{arith}
 use Rattle.std.specs.declared.option.Option.{Option}
 use Rattle.std.specs.declared.option.Option.the-variants.{Some, None}
-use Rattle.map.specs.declared.roads.Road.{Road}
 use Rattle.map.specs.Model.{MapModel, WellFormed}
-use Rattle.map.proofs.Through.{Keeps, through-well}
+use Rattle.map.proofs.Through.{through-well}
 use Rattle.entries.specs.declared.tables.SlowedRoads.{SlowedRoads}
 use Rattle.entries.specs.Readings.{shut, slowed, at-least, closing, slowing}
 use Rattle.entries.specs.Tables.{figure}

@@ -22,7 +22,7 @@ pub struct ClosedRoads {
     pub(crate) len: usize,
     ghost wide: { length entries ≡ 64 },
     ghost few: { len ≤ 64 },
-    ghost apart: { apart closed-road (take len entries) ≡ true },
+    ghost distinct: { apart closed-road (take len entries) ≡ true },
 }
 
 /// Up to 64 different roads with a figure of at most 60,000 seconds each. The first `len` entries are in use.
@@ -32,6 +32,6 @@ pub struct SlowedRoads {
     pub(crate) len: usize,
     ghost wide: { length entries ≡ 64 },
     ghost few: { len ≤ 64 },
-    ghost apart: { apart slow-road (take len entries) ≡ true },
+    ghost distinct: { apart slow-road (take len entries) ≡ true },
     ghost short: { (r f : ℕ) → figure-in (take len entries) r ≡ Some f → f ≤ 60000 },
 }

@@ -2,7 +2,7 @@
 use mathlib.Core.Path.{_≡_, refl, sym, ap, subst, _∙_}
 use mathlib.Core.List.{List, _∷_}
 use mathlib.Core.Bool.{Bool, true, false, cond}
-use Prim.Native.Nat.{ℕ, _+_, _<_, _≤_}
+use Prim.Native.Nat.{ℕ, _+_, _<_}
 use native.Mathlib.Omega.{arith}
 use lib.Dec.{eqb}
 use Rattle.std.specs.declared.option.Option.{Option}
@@ -21,7 +21,7 @@ use Rattle.entries.specs.Tables.{holds, add-answer, remove-answer, Added, Remov
 use Rattle.layers.specs.declared.calls.ClosureCall.{ClosureCall}
 use Rattle.layers.specs.declared.calls.ClosureCall.the-variants.{Close, Open}
 use Rattle.layers.specs.declared.closures.Closures.{Closures}
-use Rattle.layers.specs.Closures.{road-named, is-close, closed-by, closures-by, Left-by, close-answer, open-answer, answer-by, Closing, Opening}
+use Rattle.layers.specs.Closures.{road-named, is-close, closed-by, Left-by, close-answer, open-answer, answer-by, Closing, Opening}
 use Rattle.layers.specs.Histories.{last-on, ByHistory}
 use Rattle.layers.proofs.Counting.{many-more}
 

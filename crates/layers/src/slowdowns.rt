@@ -129,10 +129,10 @@ fn unslowed() -> SlowedRoads
 }
 
 /// The road with at least the seconds of its figure, if it has one.
-fn slowed(road: Road, figure: Option<u16>) -> Road
-    ensures { λ r. ⌜ r ≡ slowed figure road ⌝ }
+fn slowed(road: Road, own: Option<u16>) -> Road
+    ensures { λ r. ⌜ r ≡ slowed own road ⌝ }
 {
-    match figure {
+    match own {
         Some(seconds) => Road {
             seconds: road.seconds.max(seconds),
             ..road

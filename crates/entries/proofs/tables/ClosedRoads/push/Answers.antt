@@ -11,7 +11,7 @@ pub ghost-self : need.ghost-self
 ghost-self c =
     let t = c .args .self .now in
     let room : t .len < length (t .entries) = omega arith in
-    (simp length-set (t .wide), (omega arith, (apart-added closed-road (t .entries) (t .len) (c .args .road) room (c .pre .fresh) (t .apart), tt)))
+    (simp length-set (t .wide), (omega arith, (apart-added closed-road (t .entries) (t .len) (c .args .road) room (c .pre .fresh) (t .distinct), tt)))
 
 pub returns : need.returns
 returns c =

@@ -27,7 +27,7 @@ returns c = λ r f.
     let below = below-used slow-road (t .entries) (t .len) (c .args .i) (omega arith) (c .pre) in
     let one : t .len ≡ (t .len - 1) + 1 = omega arith in
     record {
-      there = ap isSome (figure-at (slowed-list t) (c .args .i) r no-slowdown f (t .apart));
+      there = ap isSome (figure-at (slowed-list t) (c .args .i) r no-slowdown f (t .distinct));
       reads = dropped-reads t (c .args .i) (t .len - 1) no-slowdown below one r f;
       count = sym one;
     }

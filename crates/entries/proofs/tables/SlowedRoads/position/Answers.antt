@@ -19,7 +19,7 @@ returns-then-eq c =
     let below = below-used slow-road (t .entries) (t .len) i (omega arith) (f .0) in
     record {
       found = f;
-      figure = ap (λ (e : Slowdown). Some (e .seconds)) (sym (getD-take (t .len) (t .entries) i no-slowdown below)) ∙ sym (figure-at (slowed-list t) i r no-slowdown f (t .apart));
+      figure = ap (λ (e : Slowdown). Some (e .seconds)) (sym (getD-take (t .len) (t .entries) i no-slowdown below)) ∙ sym (figure-at (slowed-list t) i r no-slowdown f (t .distinct));
     }
 
 pub loop-i-again : need.loop-i-again

@@ -1,9 +1,6 @@
-use mathlib.Core.Path.{refl, ap}
-use mathlib.Core.Bool.{cond}
-use Prim.Native.Nat.{_<_, _+_}
+use Prim.Native.Nat.{_<_}
 use lib.ListN.{length}
 use native.Mathlib.Omega.{arith}
-use Rattle.std.specs.Options.{isSome}
 use Rattle.std.proofs.shelf.Lists.{length-set, getD-set-other}
 use Rattle.entries.proofs.Figures.{added-reads, added-apart, added-short}
 use Rattle.entries.proofs.tables.SlowedRoads.push.Needs as need

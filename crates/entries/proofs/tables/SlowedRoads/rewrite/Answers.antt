@@ -30,6 +30,6 @@ returns c = λ r f.
     let below = below-used slow-road (t .entries) (t .len) (c .args .i) (omega arith) (c .pre .there) in
     record {
       reads = rewritten-reads t (c .args .i) (c .args .seconds) e no-slowdown below (c .rewrite .ensures) r f;
-      count = rw (figure-at (slowed-list t) (c .args .i) r no-slowdown f (t .apart)) (sym (add-zero (t .len)));
+      count = rw (figure-at (slowed-list t) (c .args .i) r no-slowdown f (t .distinct)) (sym (add-zero (t .len)));
       elsewhere = rewritten-elsewhere t (c .args .i) (c .args .seconds) e no-slowdown below (c .rewrite .ensures) r f;
     }
