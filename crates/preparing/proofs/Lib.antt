@@ -1,0 +1,2 @@
+pub mod Sowing
+pub mod Driving
