@@ -12,6 +12,13 @@ use fringe::place::Place;
 use routes::labels::Label;
 use routes::labels::Origin;
 
+/// The label of a side's own start.
+fn start_label<C: Copy>(zero: C) -> Label<C>
+    ensures { λ r. ⌜ r ≡ reached zero start-origin ⌝ }
+{
+    Label::Reached(zero, Origin::Start)
+}
+
 /// Makes a side ready: all labels are blank but that of the start, which is reached at `zero`, and the fringe holds that.
 ///
 /// A start that has no label is not reached.
@@ -28,7 +35,7 @@ pub fn begin<C: Order + Copy, F: Fringe<C>>(
     fringe.clear();
     let i = usize::from(start.0);
     if i < labels.len() {
-        labels[i] = Label::Reached(zero, Origin::Start);
+        labels[i] = start_label(zero);
         let _ = fringe.put(start, zero);
     }
 }

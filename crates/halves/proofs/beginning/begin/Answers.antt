@@ -21,12 +21,15 @@ returns-then-i-labels g c =
     let ready = c .clear .ensures .well in
     let wins : improves (o .thing) (o .leq) (c .args .zero) (spot labels (c .args .start .0)) ≡ true =
     ap (λ l. improves (o .thing) (o .leq) (c .args .zero) (spot l (c .args .start .0))) (c .blank .ensures) ∙ blank-improves (o .thing) (o .leq) n (c .args .zero) (c .args .start .0) in
+    let put = c .put .last .self in
+    let at = c .from-i .result in
+    let is = c .start-label .ensures in
     record {
-      labels = ap₂ (λ l k. set l k (Reached (c .args .zero) Start)) (c .blank .ensures) (c .from-i .ensures);
-      agree = λ fits. offer-agrees (o .thing) (o .leq) (c .args .zero) Start labels (c .from-i .result) (c .args .start .0) (c .from-i .ensures) (c .if-i-labels .taken) wins
+      labels = ap (set labels at) is ∙ ap₂ (λ l k. set l k (Reached (c .args .zero) Start)) (c .blank .ensures) (c .from-i .ensures);
+      agree = λ fits. subst (λ x. Agree (o .thing) (o .leq) (f .well put) (f .meaning put) (set labels at x)) (sym is) (offer-agrees (o .thing) (o .leq) (c .args .zero) Start labels (c .from-i .result) (c .args .start .0) (c .from-i .ensures) (c .if-i-labels .taken) wins
           (subst (λ l. Agree (o .thing) (o .leq) (f .well (c .clear .last .self)) (f .meaning (c .clear .last .self)) l) (sym (c .blank .ensures))
           (blank-agrees (o .thing) (o .leq) n ready (let s = empty .same-capacity in omega arith) (empty .empty)))
-          (c .put .ensures .put ready) (c .put .ensures .well ready);
+          (c .put .ensures .put ready) (c .put .ensures .well ready));
     }
 
 pub returns-else-i-labels : need.returns-else-i-labels
