@@ -1,4 +1,6 @@
 //! A question answered: the search, the route that it found, and all memory left as it should be.
+#![tactic(auto)]
+
 pub mod answers;
 mod asking;
 

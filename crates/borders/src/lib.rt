@@ -1,4 +1,6 @@
 //! Border places: those with a road to or from another district.
+#![tactic(auto)]
+
 ghost use Rattle.std.specs.Prelude.{◌≡◌, false, if◌then◌else◌, nat_lt};
 ghost use Rattle.halves.specs.Expansions.{leaving};
 ghost use Rattle.routes.specs.Asking.{leaves, some_leaves, is_border};

@@ -1,4 +1,6 @@
 //! Runs the reader over recorded cartridges and compares each outcome with the recorded one.
+#![tactic(auto)]
+
 use anyhow::Context;
 use cartridge::Cartridge;
 use map::Map;

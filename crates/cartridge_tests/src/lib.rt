@@ -1,4 +1,6 @@
 //! Examples of reading a cartridge.
+#![tactic(auto)]
+
 #[cfg(test)]
 mod tests {
     use cartridge::Cartridge;

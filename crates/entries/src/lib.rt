@@ -1,4 +1,6 @@
 //! The entries that layers over a map keep: tables of up to 64 roads, and why a layer refuses a call.
+#![tactic(auto)]
+
 pub mod closed;
 pub mod refusals;
 pub mod slowdown;

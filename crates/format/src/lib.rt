@@ -1,5 +1,7 @@
 //! What the bytes of a cartridge say: its refusals, and under specs/ the one definition of what a byte string means.
 //! The reader itself is the crate `cartridge`.
+#![tactic(auto)]
+
 ghost use Rattle.std.specs.Prelude.{◌≡◌};
 ghost use Rattle.format.specs.Refusals.{number_of, payload_of};
 

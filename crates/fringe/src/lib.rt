@@ -1,4 +1,6 @@
 //! Places, orders and fringes. Nothing here knows a map.
+#![tactic(auto)]
+
 pub mod drains;
 pub mod fringes;
 pub mod order;

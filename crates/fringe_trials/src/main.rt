@@ -1,4 +1,6 @@
 //! Drives both kinds of fringe with many puts, takes and clears at three orders, and compares them with a plain scan.
+#![tactic(auto)]
+
 use fringe::{Fringe, Order, Pair, Place, drain};
 use heap::Heap;
 use measure::{Steepness, Time};

@@ -1,4 +1,6 @@
 //! A grid of pillars as a map: its roads, tiles and lists are computed from five figures.
+#![tactic(auto)]
+
 mod grids;
 mod making;
 mod reader;

@@ -1,4 +1,6 @@
 //! The steps of one side of a search, over any measure, map and fringe, with the labels in a lent row.
+#![tactic(auto)]
+
 pub mod beginning;
 pub mod expanding;
 pub mod meetings;

@@ -48,7 +48,7 @@ fn better_of<C: Order + Copy>(
     place: Place,
     cost: Option<C>,
 ) -> Option<(Place, C)>
-    ensures { result ≡ nearer thing leq found place cost }
+    ensures { result ≡ nearer C.Order.thing C.Order.leq found place cost }
 {
     match cost {
         Some(c) => match found {

@@ -11,7 +11,7 @@ use routes::labels::{Label, Origin};
 
 /// Whether the cost may take the label's place.
 fn better<C: Order + Copy>(cost: C, old: Label<C>) -> bool
-    ensures { result ≡ improves thing leq cost old }
+    ensures { result ≡ improves C.Order.thing C.Order.leq cost old }
 {
     match old {
         Label::Blank => true,

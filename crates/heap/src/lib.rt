@@ -3,6 +3,8 @@
 //! The first `len` entries count, and none of them comes before its parent: so the first is the least. Each place has a
 //! position, where its entry stands. A position is believed only if the entry that stands there counts and is the
 //! place's own: so the memory may hold anything before, and emptying the heap touches none of it.
+#![tactic(auto)]
+
 ghost use Rattle.std.specs.Prelude.{◌≡◌, ◌<◌, ◌≤◌, min, not, length, Some, None, Ok};
 ghost use Rattle.fringe.specs.Fringes.{Empty, Put, First, Taken};
 ghost use Rattle.heap.specs.Heaps.{InOrder, entry_at, entry_leq, meaning_of, place_of};
@@ -37,7 +39,7 @@ impl<'a, C: Order + Copy> Heap<'a, C> {
     pub fn new(entries: &'a mut [(Place, C)], positions: &'a mut [u16]) -> Self
         ensures capacity { (meaning_of result.rows).capacity ≡ min (min (length entries.old) (length positions.old)) 1024 }
         ensures empty { Empty (meaning_of result.rows) }
-        ensures well { InOrder thing leq result.rows }
+        ensures well { InOrder C.Order.thing C.Order.leq result.rows }
     {
         let capacity = entries.len().min(positions.len()).min(MOST_PLACES);
         Heap {
@@ -123,8 +125,8 @@ impl<'a, C: Order + Copy> Rows<'a, C> {
         requires indexed { Indexed self.old }
         requires absent { Found self.old place.0 None }
         ensures indexed { Indexed self.new }
-        ensures put { Put thing leq (meaning_of self.old) (meaning_of self.new) place.0 cost (Ok tt) }
-        ensures ordered { InOrder thing leq self.old → InOrder thing leq self.new }
+        ensures put { Put C.Order.thing C.Order.leq (meaning_of self.old) (meaning_of self.new) place.0 cost (Ok tt) }
+        ensures ordered { InOrder C.Order.thing C.Order.leq self.old → InOrder C.Order.thing C.Order.leq self.new }
     {
         let last = self.len;
         self.entries[last] = (place, cost);
@@ -138,8 +140,8 @@ impl<'a, C: Order + Copy> Rows<'a, C> {
         requires indexed { Indexed self.old }
         requires held { Found self.old place.0 (Some position) }
         ensures indexed { Indexed self.new }
-        ensures put { Put thing leq (meaning_of self.old) (meaning_of self.new) place.0 cost (Ok tt) }
-        ensures ordered { InOrder thing leq self.old → InOrder thing leq self.new }
+        ensures put { Put C.Order.thing C.Order.leq (meaning_of self.old) (meaning_of self.new) place.0 cost (Ok tt) }
+        ensures ordered { InOrder C.Order.thing C.Order.leq self.old → InOrder C.Order.thing C.Order.leq self.new }
     {
         let old = self.entries[position];
         if cost.less(&old.1) {
@@ -152,7 +154,7 @@ impl<'a, C: Order + Copy> Rows<'a, C> {
     fn first(&self) -> (Place, C)
         requires some { 0 < self.now.len }
         requires indexed { Indexed self.now }
-        ensures { InOrder thing leq self.now → First thing leq (meaning_of self.now) (place_of result) result.1 }
+        ensures { InOrder C.Order.thing C.Order.leq self.now → First C.Order.thing C.Order.leq (meaning_of self.now) (place_of result) result.1 }
     {
         self.entries[0]
     }
@@ -162,8 +164,8 @@ impl<'a, C: Order + Copy> Rows<'a, C> {
         requires some { 0 < self.old.len }
         requires indexed { Indexed self.old }
         ensures indexed { Indexed self.new }
-        ensures taken { InOrder thing leq self.old → Taken thing leq (meaning_of self.old) (meaning_of self.new) (Some result) }
-        ensures ordered { InOrder thing leq self.old → InOrder thing leq self.new }
+        ensures taken { InOrder C.Order.thing C.Order.leq self.old → Taken C.Order.thing C.Order.leq (meaning_of self.old) (meaning_of self.new) (Some result) }
+        ensures ordered { InOrder C.Order.thing C.Order.leq self.old → InOrder C.Order.thing C.Order.leq self.new }
     {
         let first = self.entries[0];
         let last = self.len - 1;
@@ -178,7 +180,7 @@ impl<'a, C: Order + Copy> Rows<'a, C> {
         requires counts { start < self.old.len }
         requires indexed { Indexed self.old }
         ensures reordered { Reordered self.old self.new }
-        ensures ordered { UpTo thing leq self.old start → InOrder thing leq self.new }
+        ensures ordered { UpTo C.Order.thing C.Order.leq self.old start → InOrder C.Order.thing C.Order.leq self.new }
     {
         let mut child = start;
         while child > 0 {
@@ -195,7 +197,7 @@ impl<'a, C: Order + Copy> Rows<'a, C> {
     fn sift_down(&mut self)
         requires indexed { Indexed self.old }
         ensures reordered { Reordered self.old self.new }
-        ensures ordered { DownFrom thing leq self.old 0 → InOrder thing leq self.new }
+        ensures ordered { DownFrom C.Order.thing C.Order.leq self.old 0 → InOrder C.Order.thing C.Order.leq self.new }
     {
         let mut parent = 0;
         while let Some(child) = self.first_child(parent) {
@@ -211,7 +213,7 @@ impl<'a, C: Order + Copy> Rows<'a, C> {
     fn first_child(&self, parent: usize) -> Option<usize>
         requires within { parent ≤ self.now.len }
         requires indexed { Indexed self.now }
-        ensures { FirstChild thing leq self.now parent result }
+        ensures { FirstChild C.Order.thing C.Order.leq self.now parent result }
     {
         let entries = &*self.entries;
         let left = 2 * parent + 1;
@@ -251,7 +253,7 @@ impl<'a, C: Order + Copy> Rows<'a, C> {
 
 /// Whether an entry comes before another: by its cost, and of equal costs by its place.
 fn is_before<C: Order + Copy>(a: (Place, C), b: (Place, C)) -> bool
-    ensures { result ≡ not (entry_leq thing leq b a) }
+    ensures { result ≡ not (entry_leq C.Order.thing C.Order.leq b a) }
 {
     if a.1.less(&b.1) {
         return true;

@@ -1,4 +1,6 @@
 //! What a unit's history makes of it: the calls on a unit, and why one is refused.
+#![tactic(auto)]
+
 pub mod calls;
 pub mod refusals;
 

@@ -1,4 +1,6 @@
 //! Two layers over any map, each again a map: roads read as closed, and roads read as slower.
+#![tactic(auto)]
+
 pub mod calls;
 pub mod closures;
 pub mod slowdowns;

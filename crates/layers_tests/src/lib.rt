@@ -1,4 +1,6 @@
 //! Examples of closures and slowdowns, over a grid and over a cartridge.
+#![tactic(auto)]
+
 #[cfg(test)]
 mod tests {
     use cartridge::Cartridge;

@@ -1,4 +1,6 @@
 //! Mine maps: their numbers, their roads, and what it is to be a map.
+#![tactic(auto)]
+
 pub mod directions;
 pub mod maps;
 pub mod numbers;

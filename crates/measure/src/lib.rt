@@ -1,4 +1,6 @@
 //! What roads cost, and how costs add up.
+#![tactic(auto)]
+
 pub mod measures;
 pub mod steepness;
 pub mod sums;

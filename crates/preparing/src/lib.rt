@@ -1,4 +1,6 @@
 //! Preparing the row of one district from the base map, over any measure, map and fringe, with the work in lent memory.
+#![tactic(auto)]
+
 ghost use Rattle.std.specs.Prelude.{◌≡◌, length, replicate};
 ghost use Rattle.fringe.specs.Fringes.{Emptied};
 ghost use Rattle.routes.specs.declared.labels.Label.TheVariants.{Blank};

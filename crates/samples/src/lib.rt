@@ -1,4 +1,6 @@
 //! Samples of the definitions that the contracts of the route finder cite.
+#![tactic(auto)]
+
 ghost use Rattle.std.specs.Prelude.{◌≡◌, true, length, nat_le};
 ghost use Rattle.measure.specs.Times.{time, seconds_of, add_time};
 ghost use Rattle.measure.specs.Steeps.{steep, per_mille_of, steeper};

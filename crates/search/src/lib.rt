@@ -1,4 +1,6 @@
 //! The search for a least-cost route, from both ends at once, over any measure, map and fringes.
+#![tactic(auto)]
+
 mod guides;
 mod reading;
 mod running;

@@ -1,4 +1,6 @@
 //! The shift program: reads the cartridge MINE.MAP in its folder and says what it holds.
+#![tactic(auto)]
+
 use anyhow::anyhow;
 use cartridge::Cartridge;
 use map::{District, Map};

@@ -1,4 +1,6 @@
 //! What a map holds, counted district by district.
+#![tactic(auto)]
+
 ghost use Rattle.std.specs.Prelude.{◌≡◌, not, ◌&&◌};
 ghost use Rattle.survey.specs.Counts.{in_district, crosses, places_in, roads_leaving};
 

@@ -1,4 +1,6 @@
 //! The district table for one measure.
+#![tactic(auto)]
+
 mod entry;
 mod tables;
 

@@ -1,4 +1,6 @@
 //! The route that a search found, read from the labels that it left.
+#![tactic(auto)]
+
 mod lists;
 mod tracks;
 

@@ -1,4 +1,6 @@
 //! A map turned round, over any map that it borrows.
+#![tactic(auto)]
+
 ghost use Rattle.std.specs.Prelude.{◌≡◌};
 ghost use Rattle.std.specs.Option.{option_map};
 ghost use Rattle.map.specs.Turned.{reversed, turned_round};

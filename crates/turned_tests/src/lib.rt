@@ -1,4 +1,6 @@
 //! Examples of maps turned round, over a grid.
+#![tactic(auto)]
+
 #[cfg(test)]
 mod tests {
     use fringe::Place;

@@ -1,4 +1,6 @@
 //! The turns of a search, over any measure, map and fringe.
+#![tactic(auto)]
+
 pub mod advancing;
 pub mod bounds;
 pub mod findings;

@@ -1,4 +1,6 @@
 //! A unit: one vehicle's map, with its closures, its slowdowns and its district table.
+#![tactic(auto)]
+
 pub mod questions;
 pub mod rows;
 pub mod units;

@@ -28,7 +28,7 @@ impl<'a, C: Order + Copy> WinnerTree<'a, C> {
     pub fn new(costs: &'a mut [Option<C>], winners: &'a mut [Option<(Place, C)>]) -> Self
         ensures capacity { (meaning_of result.rows.costs.now).capacity ≡ capacity_of (length costs.old) (length winners.old) }
         ensures empty { Empty (meaning_of result.rows.costs.now) }
-        ensures well { InOrder thing leq result.rows.costs.now result.rows.winners.now }
+        ensures well { InOrder C.Order.thing C.Order.leq result.rows.costs.now result.rows.winners.now }
     {
         let capacity = costs.len().min(winners.len()).min(MOST_PLACES);
         let mut rows = Rows {
@@ -94,7 +94,7 @@ impl<'a, C: Order + Copy> Rows<'a, C> {
         ensures long { length self.new.costs.now ≡ length self.old.costs.now }
         ensures even { length self.new.winners.now ≡ length self.old.winners.now }
         ensures empty { Empty (meaning_of self.new.costs.now) }
-        ensures order { InOrder thing leq self.new.costs.now self.new.winners.now }
+        ensures order { InOrder C.Order.thing C.Order.leq self.new.costs.now self.new.winners.now }
     {
         wipe(self.costs);
         wipe(self.winners);
@@ -141,7 +141,7 @@ impl<'a, C: Order + Copy> Rows<'a, C> {
         requires even { length self.old.winners.now ≡ length self.old.costs.now }
         requires few { length self.old.costs.now ≤ 1024 }
         ensures costs { self.new.costs.now ≡ self.old.costs.now }
-        ensures winners { self.new.winners.now ≡ slice_set self.old.winners.now node (match_at thing leq self.old.costs.now self.old.winners.now node) }
+        ensures winners { self.new.winners.now ≡ slice_set self.old.winners.now node (match_at C.Order.thing C.Order.leq self.old.costs.now self.old.winners.now node) }
     {
         let winner = better(self.contestant(2 * node), self.contestant(2 * node + 1));
         store(self.winners, node, winner);
@@ -154,7 +154,7 @@ impl<'a, C: Order + Copy> Rows<'a, C> {
         requires few { length self.old.costs.now ≤ 1024 }
         ensures costs { self.new.costs.now ≡ self.old.costs.now }
         ensures even { length self.new.winners.now ≡ length self.old.winners.now }
-        ensures order { InOrderBut thing leq (start / 2) self.old.costs.now self.old.winners.now → InOrder thing leq self.new.costs.now self.new.winners.now }
+        ensures order { InOrderBut C.Order.thing C.Order.leq (start / 2) self.old.costs.now self.old.winners.now → InOrder C.Order.thing C.Order.leq self.new.costs.now self.new.winners.now }
     {
         let mut node = start;
         while node > 1 {
@@ -170,7 +170,7 @@ impl<'a, C: Order + Copy> Rows<'a, C> {
         requires few { length self.old.costs.now ≤ 1024 }
         ensures costs { self.new.costs.now ≡ slice_set self.old.costs.now p cost }
         ensures even { length self.new.winners.now ≡ length self.old.winners.now }
-        ensures order { InOrder thing leq self.old.costs.now self.old.winners.now → InOrder thing leq self.new.costs.now self.new.winners.now }
+        ensures order { InOrder C.Order.thing C.Order.leq self.old.costs.now self.old.winners.now → InOrder C.Order.thing C.Order.leq self.new.costs.now self.new.winners.now }
     {
         store(self.costs, p, cost);
         self.replay(self.costs.len() + p);
@@ -181,9 +181,9 @@ impl<'a, C: Order + Copy> Rows<'a, C> {
         requires inside { p < length self.old.costs.now }
         requires even { length self.old.winners.now ≡ length self.old.costs.now }
         requires few { length self.old.costs.now ≤ 1024 }
-        ensures costs { self.new.costs.now ≡ slice_set self.old.costs.now p (lowered thing leq (slice_index_or self.old.costs.now p None) cost) }
+        ensures costs { self.new.costs.now ≡ slice_set self.old.costs.now p (lowered C.Order.thing C.Order.leq (slice_index_or self.old.costs.now p None) cost) }
         ensures even { length self.new.winners.now ≡ length self.old.winners.now }
-        ensures order { InOrder thing leq self.old.costs.now self.old.winners.now → InOrder thing leq self.new.costs.now self.new.winners.now }
+        ensures order { InOrder C.Order.thing C.Order.leq self.old.costs.now self.old.winners.now → InOrder C.Order.thing C.Order.leq self.new.costs.now self.new.winners.now }
     {
         if lowers(cost, self.held(p)) {
             self.write(p, Some(cost));
@@ -197,7 +197,7 @@ impl<'a, C: Order + Copy> Rows<'a, C> {
         requires few { length self.old.costs.now ≤ 1024 }
         ensures costs { self.new.costs.now ≡ slice_set self.old.costs.now p None }
         ensures even { length self.new.winners.now ≡ length self.old.winners.now }
-        ensures order { InOrder thing leq self.old.costs.now self.old.winners.now → InOrder thing leq self.new.costs.now self.new.winners.now }
+        ensures order { InOrder C.Order.thing C.Order.leq self.old.costs.now self.old.winners.now → InOrder C.Order.thing C.Order.leq self.new.costs.now self.new.winners.now }
     {
         self.write(p, None);
     }
@@ -205,7 +205,7 @@ impl<'a, C: Order + Copy> Rows<'a, C> {
 
 /// Whether `a` comes before `b`: by the cost, and of equal costs by the place.
 fn precedes<C: Order>(a: &(Place, C), b: &(Place, C)) -> bool
-    ensures { result ≡ not (ahead thing leq b.now a.now) }
+    ensures { result ≡ not (ahead C.Order.thing C.Order.leq b.now a.now) }
 {
     if a.1.less(&b.1) {
         return true;
@@ -218,7 +218,7 @@ fn precedes<C: Order>(a: &(Place, C), b: &(Place, C)) -> bool
 
 /// The winner of a match, for which either side may be missing.
 fn better<C: Order + Copy>(a: Option<(Place, C)>, b: Option<(Place, C)>) -> Option<(Place, C)>
-    ensures { result ≡ winner_of thing leq a b }
+    ensures { result ≡ winner_of C.Order.thing C.Order.leq a b }
 {
     match (a, b) {
         (Some(x), Some(y)) => { if precedes(&y, &x) { b } else { a } }
@@ -239,7 +239,7 @@ fn enter<C>(place: Place, cost: Option<C>) -> Option<(Place, C)>
 
 /// Whether a cost is less than what is held, if anything is.
 fn lowers<C: Order + Copy>(cost: C, held: Option<C>) -> bool
-    ensures { result ≡ cheaper thing leq cost held }
+    ensures { result ≡ cheaper C.Order.thing C.Order.leq cost held }
 {
     match held {
         Some(old) => cost.less(&old),
