@@ -1,5 +1,5 @@
-use Rattle.std.proofs.Common.{◌≡◌, get_or, sym, ap, ◌∙◌, arith}
-use Rattle.std.proofs.lemmas.Bool.Decides.{not_from_Decides}
+use Rattle.std.proofs.Common.{◌≡◌, get_or, sym, ap, ◌∙◌, arith, eqb-true}
+use Rattle.std.proofs.lemmas.Bool.{eqb-false}
 use Rattle.heap.specs.Heaps.{place_of, entry_at}
 use Rattle.heap.proofs.Entries.{default}
 use Rattle.heap.proofs.Rows.find.Goals as goal
@@ -8,7 +8,7 @@ use Rattle.heap.proofs.Rows.find.Goals.{else-position-self-via-then-position-sel
 pub returns-then-eq : goal.returns-then-eq
 returns-then-eq g c = (
   c.if-position-self.true,
-  λ d. ap place_of (default c.requires.indexed c.from-position.result d c.index-entries-position.result c.if-position-self.true) ∙ c.eq.ensures.0 c.if-eq.true,
+  λ d. ap place_of (default c.requires.indexed c.from-position.result d c.index-entries-position.result c.if-position-self.true) ∙ eqb-true _ _ (sym c.eq.ensures ∙ c.if-eq.true),
 )
 
 -- Did an entry of the place count, it would stand where the place's position says.
@@ -20,7 +20,7 @@ returns-else-position-self g c = λ k d h e.
     elim c.else-position-self.branch [
       | else-position-self-via-then-position-self+else-eq w ↦
           let r = w.index-entries-position.result in
-          not_from_Decides w.eq.result w.eq.ensures w.if-eq.false
+          eqb-false _ _ (sym w.eq.ensures ∙ w.if-eq.false)
           (ap (λ q. place_of (entry_at rows r q)) at ∙ ap place_of (default c.requires.indexed k r d h) ∙ e)
       | else-position-self-via-else-position-self w ↦ let s = w.if-position-self in omega arith
     ]

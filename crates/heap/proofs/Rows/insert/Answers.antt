@@ -12,8 +12,8 @@ bounds-self-last g c =
     let l = w.indexed.level in
     omega arith
 
-pub sift-up-requires : goal.sift-up-requires
-sift-up-requires g c =
+pub sift_up-requires : goal.sift_up-requires
+sift_up-requires g c =
     let rows = c.args.self.now in
     let w = c.requires in
     record {
@@ -27,7 +27,7 @@ returns g c =
     let rows = c.args.self.now in
     let e : Place × g.row.C.Denot = (c.args.place, c.args.cost) in
     let w = c.requires in
-    let u = c.sift-up.ensures in
+    let u = c.sift_up.ensures in
     let total = g.met.C.Order.ordered in
     let a = appended w.indexed w.fits w.absent refl refl (ap (λ p. set rows.positions.now p rows.len) c.from.ensures) in
     record {

@@ -4,8 +4,8 @@ use Rattle.fringe.specs.declared.place.Place.{Place}
 use Rattle.heap.proofs.Puts.{rewritten, written_indexed, written_put, written_ordered, kept_put, less_low, less_leq}
 use Rattle.heap.proofs.Rows.lower.Goals as goal
 
-pub sift-up-requires : goal.sift-up-requires
-sift-up-requires g c =
+pub sift_up-requires : goal.sift_up-requires
+sift_up-requires g c =
     let w = c.requires in
     record { counts = w.held.0; indexed = written_indexed (rewritten w.indexed c.args.position w.held refl refl refl) }
 
@@ -14,7 +14,7 @@ returns-then-less g c =
     let o = g.C.Order in
     let rows = c.args.self.now in
     let w = c.requires in
-    let u = c.sift-up.ensures in
+    let u = c.sift_up.ensures in
     let total = g.met.C.Order.ordered in
     let r = rewritten w.indexed c.args.position w.held refl refl refl in
     let e : Place × g.row.C.Denot = (c.args.place, c.args.cost) in

@@ -9,7 +9,7 @@ returns g c =
     let rows = c.args.self.now in
     let w = c.requires in
     let s = c.swap.ensures in
-    let u = c.sift-down.ensures in
+    let u = c.sift_down.ensures in
     let n = s.reordered.same_len in
     let len : c.swap.new.self.len ≡ rows.len - 1 + 1 = omega arith in
     record {

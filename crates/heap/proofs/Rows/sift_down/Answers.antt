@@ -6,14 +6,14 @@ use Rattle.heap.proofs.Ranks.{entries_ranked}
 use Rattle.heap.proofs.Sinks.{first_at, sunk, sunk_last, sinks}
 use Rattle.heap.proofs.Rows.sift_down.Goals as goal
 
-pub returns-then-not-is-before : goal.returns-then-not-is-before
-returns-then-not-is-before g c =
+pub returns-then-not-is_before : goal.returns-then-not-is_before
+returns-then-not-is_before g c =
     let o = g.C.Order in
     let inv = c.loop-child.invariant in
     let f = c.in-Some.ensures in
     let l = f.later in
     let w = f.within in
-    let fine = not-false _ (sym c.if-not-is-before.ensures) in
+    let fine = not-false _ (sym c.if-not-is_before.ensures) in
     record {
       reordered = inv.1;
       ordered = λ down d. sunk (entries_ranked o.thing g.met.C.Order.ordered) (inv.2 down d) (first_at f d)
@@ -29,7 +29,7 @@ loop-child-preserved g c =
     let w = f.within in
     let s = c.swap.ensures in
     let n = s.reordered.same_len in
-    let low = not-true _ (sym c.if-not-is-before.ensures) in (
+    let low = not-true _ (sym c.if-not-is_before.ensures) in (
       omega arith,
       again inv.1 s.reordered,
       λ down d. rw n
@@ -43,5 +43,5 @@ returns g c =
     let inv = c.loop-child.invariant in
     record {
       reordered = inv.1;
-      ordered = λ down d. sunk_last (entries_ranked o.thing g.met.C.Order.ordered) (inv.2 down d) c.in-default.ensures;
+      ordered = λ down d. sunk_last (entries_ranked o.thing g.met.C.Order.ordered) (inv.2 down d) c.in_default.ensures;
     }

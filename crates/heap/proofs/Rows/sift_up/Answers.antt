@@ -6,12 +6,12 @@ use Rattle.heap.proofs.Ranks.{entries_ranked}
 use Rattle.heap.proofs.Rises.{risen, risen_first, rises}
 use Rattle.heap.proofs.Rows.sift_up.Goals as goal
 
-pub returns-then-not-is-before : goal.returns-then-not-is-before
-returns-then-not-is-before g c =
+pub returns-then-not-is_before : goal.returns-then-not-is_before
+returns-then-not-is_before g c =
     let o = g.C.Order in
     let inv = c.loop-child.invariant in
     let i = c.loop-child.child in
-    let fine = not-false _ (sym c.if-not-is-before.ensures) in
+    let fine = not-false _ (sym c.if-not-is_before.ensures) in
     record {
       reordered = inv.1;
       ordered = λ up d. risen (entries_ranked o.thing g.met.C.Order.ordered) (inv.2 up d)
@@ -25,7 +25,7 @@ loop-child-preserved g c =
     let i = c.loop-child.child in
     let s = c.swap.ensures in
     let n = s.reordered.same_len in
-    let low = not-true _ (sym c.if-not-is-before.ensures) in (
+    let low = not-true _ (sym c.if-not-is_before.ensures) in (
       omega arith,
       again inv.1 s.reordered,
       λ up d. rw n
