@@ -5,12 +5,16 @@ use Rattle.entries.specs.Tables.{closed_list}
 use Rattle.entries.proofs.Lists.{below_used, found_has, has_dropped, apart_dropped}
 use Rattle.entries.proofs.tables.ClosedRoads.free.Goals as goal
 
-pub invariant-of-self : goal.invariant-of-self
-invariant-of-self c =
+pub invariant_of-self : goal.invariant_of-self
+invariant_of-self c =
     let t = c.args.self.now in
     let below = below_used closed_road t.entries t.len c.args.i (omega arith) c.requires in
     let one : t.len ≡ (t.len - 1) + 1 = omega arith in
-    (simp length-set t.wide, (omega arith, (apart_dropped closed_road t.entries t.len (t.len - 1) c.args.i (record { 0 = 0 }) one (omega arith) t.distinct, tt)))
+    record {
+      wide = simp length-set t.wide;
+      few = omega arith;
+      distinct = apart_dropped closed_road t.entries t.len (t.len - 1) c.args.i (record { 0 = 0 }) one (omega arith) t.distinct;
+    }
 
 pub returns : goal.returns
 returns c = λ r f.

@@ -4,11 +4,11 @@ use Rattle.entries.specs.Entries.{closed_road}
 use Rattle.entries.proofs.Lists.{has_added, apart_added}
 use Rattle.entries.proofs.tables.ClosedRoads.push.Goals as goal
 
-pub invariant-of-self : goal.invariant-of-self
-invariant-of-self c =
+pub invariant_of-self : goal.invariant_of-self
+invariant_of-self c =
     let t = c.args.self.now in
     let room : t.len < length t.entries = omega arith in
-    (simp length-set t.wide, (omega arith, (apart_added closed_road t.entries t.len c.args.road room c.requires.fresh t.distinct, tt)))
+    record { wide = simp length-set t.wide; few = omega arith; distinct = apart_added closed_road t.entries t.len c.args.road room c.requires.fresh t.distinct }
 
 pub returns : goal.returns
 returns c =

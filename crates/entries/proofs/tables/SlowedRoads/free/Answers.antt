@@ -6,17 +6,16 @@ use Rattle.entries.proofs.Lists.{below_used}
 use Rattle.entries.proofs.Figures.{figure_at, dropped_reads, dropped_apart, dropped_short}
 use Rattle.entries.proofs.tables.SlowedRoads.free.Goals as goal
 
-pub invariant-of-self : goal.invariant-of-self
-invariant-of-self c =
+pub invariant_of-self : goal.invariant_of-self
+invariant_of-self c =
     let t = c.args.self.now in
     let below = below_used slow_road t.entries t.len c.args.i (omega arith) c.requires in
-    let one : t.len ≡ (t.len - 1) + 1 = omega arith in (
-      simp length-set t.wide,
-      (
-        omega arith,
-        (dropped_apart t c.args.i (t.len - 1) no_slowdown below one, (dropped_short t c.args.i (t.len - 1) no_slowdown below one, tt)),
-      ),
-    )
+    let one : t.len ≡ (t.len - 1) + 1 = omega arith in record {
+      wide = simp length-set t.wide;
+      few = omega arith;
+      distinct = dropped_apart t c.args.i (t.len - 1) no_slowdown below one;
+      short = dropped_short t c.args.i (t.len - 1) no_slowdown below one;
+    }
 
 pub returns : goal.returns
 returns c = λ r f.

@@ -1,6 +1,6 @@
 use Rattle.std.proofs.Common.{Some, sym, ap, ◌∙◌, arith}
 use Rattle.std.proofs.lemmas.List.{get_or-take}
-use Rattle.std.proofs.lemmas.Bool.Decides.{not_from_Decides}
+use Rattle.std.proofs.lemmas.Bool.{eqb-true, eqb-false}
 use Rattle.entries.specs.declared.slowdown.Slowdown.{Slowdown}
 use Rattle.entries.specs.Slowdowns.{slow_road, no_slowdown}
 use Rattle.entries.specs.Tables.{slowed_list}
@@ -13,7 +13,7 @@ returns-then-eq c =
     let t = c.args.self.now in
     let i = c.loop-i.i in
     let r = c.args.road.0 in
-    let f = look_found slow_road (slowed_list t) c.used-x-items.result.now i r no_slowdown c.used-x-items.ensures c.loop-i-test.true (c.eq.ensures.0 c.if-eq.true) in
+    let f = look_found slow_road (slowed_list t) c.used-x-items.result.now i r no_slowdown c.used-x-items.ensures c.loop-i-test.true (eqb-true _ _ (sym c.eq.ensures ∙ c.if-eq.true)) in
     let below = below_used slow_road t.entries t.len i (omega arith) f.0 in
     record {
       found = f;
@@ -23,7 +23,7 @@ returns-then-eq c =
 pub loop-i-preserved : goal.loop-i-preserved
 loop-i-preserved c =
     look_more slow_road (slowed_list c.args.self.now) c.used-x-items.result.now c.loop-i.i c.args.road.0 no_slowdown
-    c.used-x-items.ensures c.loop-i-test.true c.loop-i.invariant (not_from_Decides c.eq.result c.eq.ensures c.if-eq.false)
+    c.used-x-items.ensures c.loop-i-test.true c.loop-i.invariant (eqb-false _ _ (sym c.eq.ensures ∙ c.if-eq.false))
 
 pub returns : goal.returns
 returns c =

@@ -3,12 +3,17 @@ use Rattle.std.proofs.lemmas.List.{length-set, get_or-set_other}
 use Rattle.entries.proofs.Figures.{added_reads, added_apart, added_short}
 use Rattle.entries.proofs.tables.SlowedRoads.push.Goals as goal
 
-pub invariant-of-self : goal.invariant-of-self
-invariant-of-self c =
+pub invariant_of-self : goal.invariant_of-self
+invariant_of-self c =
     let t = c.args.self.now in
     let e = c.args.slowdown in
     let room : t.len < length t.entries = omega arith in
-    (simp length-set t.wide, (omega arith, (added_apart t e room c.requires.fresh, (added_short t e room c.requires.fresh c.requires.short, tt))))
+    record {
+      wide = simp length-set t.wide;
+      few = omega arith;
+      distinct = added_apart t e room c.requires.fresh;
+      short = added_short t e room c.requires.fresh c.requires.short;
+    }
 
 pub returns : goal.returns
 returns c =

@@ -6,20 +6,16 @@ use Rattle.entries.proofs.Lists.{below_used}
 use Rattle.entries.proofs.Figures.{figure_at, rewritten_reads, rewritten_apart, rewritten_short, rewritten_elsewhere}
 use Rattle.entries.proofs.tables.SlowedRoads.rewrite.Goals as goal
 
-pub invariant-of-self : goal.invariant-of-self
-invariant-of-self c =
+pub invariant_of-self : goal.invariant_of-self
+invariant_of-self c =
     let t = c.args.self.now in
     let e = c.rewrite.new.self in
-    let below = below_used slow_road t.entries t.len c.args.i (omega arith) c.requires.there in (
-      simp length-set t.wide,
-      (
-        t.few,
-        (
-          rewritten_apart t c.args.i c.args.seconds e no_slowdown below c.rewrite.ensures,
-          (rewritten_short t c.args.i c.args.seconds e no_slowdown below c.rewrite.ensures c.requires.short, tt),
-        ),
-      ),
-    )
+    let below = below_used slow_road t.entries t.len c.args.i (omega arith) c.requires.there in record {
+      wide = simp length-set t.wide;
+      few = t.few;
+      distinct = rewritten_apart t c.args.i c.args.seconds e no_slowdown below c.rewrite.ensures;
+      short = rewritten_short t c.args.i c.args.seconds e no_slowdown below c.rewrite.ensures c.requires.short;
+    }
 
 pub returns : goal.returns
 returns c = λ r f.
