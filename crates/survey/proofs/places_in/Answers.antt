@@ -8,6 +8,6 @@ pub loop-p-preserved : goal.loop-p-preserved
 loop-p-preserved g c =
     let t = in_district (g.M.Map.model c.args.map.now) c.args.district.0 in
     elim c.if-is_in.branch [
-      | then-is_in w ↦ subst (Counted t _) (sym w.count_is) (counts_more t c.loop-p.p c.loop-p.count c.loop-p.invariant (sym w.if-is-in.ensures))
-      | else-is_in w ↦ subst (Counted t _) (sym w.count_is) (counts_same t c.loop-p.p c.loop-p.count c.loop-p.invariant (sym w.if-is-in.ensures))
+      | then-is_in w ↦ subst (Counted t _) (sym w.count-is) (counts_more t c.loop-p.p c.loop-p.count c.loop-p.invariant (sym w.if-is_in.ensures))
+      | else-is_in w ↦ subst (Counted t _) (sym w.count-is) (counts_same t c.loop-p.p c.loop-p.count c.loop-p.invariant (sym w.if-is_in.ensures))
     ]

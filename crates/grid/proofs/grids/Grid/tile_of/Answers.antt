@@ -9,14 +9,14 @@ below : (g : Grid) (p wide : ℕ) → p < place_count (figures_of g) → wide �
     p / g.columns / g.side * wide + p % g.columns / g.side < 64
 below g p wide l e = let k = district_known (figures_of g) (in_range g) p l in let h = g.few in rw e (omega arith)
 
-pub overflow-mul-result : goal.overflow-mul-result
-overflow-mul-result c = let k = below c.args.self.now c.args.place c.tiles-along.result c.requires c.tiles-along.ensures in omega arith
+pub overflow_mul-result : goal.overflow_mul-result
+overflow_mul-result c = let k = below c.args.self.now c.args.place c.tiles_along.result c.requires c.tiles_along.ensures in omega arith
 
-pub overflow-add-result : goal.overflow-add-result
-overflow-add-result c = let k = below c.args.self.now c.args.place c.tiles-along.result c.requires c.tiles-along.ensures in omega arith
+pub overflow_add-result : goal.overflow_add-result
+overflow_add-result c = let k = below c.args.self.now c.args.place c.tiles_along.result c.requires c.tiles_along.ensures in omega arith
 
 pub returns : goal.returns
 returns c = record {
   number = search rules;
-  few = below c.args.self.now c.args.place c.tiles-along.result c.requires c.tiles-along.ensures;
+  few = below c.args.self.now c.args.place c.tiles_along.result c.requires c.tiles_along.ensures;
 }
