@@ -22,17 +22,17 @@ returns-then-number-roads c =
     refused_at (λ i. not (right_arrival b i)) (roads b) WrongArrival c.loop-i.i (omega arith)
     (not_from_false _ (out_of_range b c.loop-i.i (omega arith))) c.loop-i.invariant.0
 
-pub returns-then-not-arrives-later : goal.returns-then-not-arrives-later
-returns-then-not-arrives-later c =
+pub returns-then-not-arrives_later : goal.returns-then-not-arrives_later
+returns-then-not-arrives_later c =
     let b = c.args.bytes.now in
     refused_at (λ i. not (right_arrival b i)) (roads b) WrongArrival c.loop-i.i (omega arith)
-    (not_from_false _ (judged-arrival b c.loop-i.i _ _ false (omega arith) c.loop-i.invariant.1 (c.road-at-road.ensures ∙ ap (road_of b) (c.from-number.ensures ∙ c.arrival-at.ensures)) c.if-not-arrives-later.ensures)) c.loop-i.invariant.0
+    (not_from_false _ (judged-arrival b c.loop-i.i _ _ false (omega arith) c.loop-i.invariant.1 (c.road_at-road.ensures ∙ ap (road_of b) (c.from-number.ensures ∙ c.arrival_at.ensures)) c.if-not-arrives_later.ensures)) c.loop-i.invariant.0
 
 pub loop-i-preserved : goal.loop-i-preserved
 loop-i-preserved c =
     let b = c.args.bytes.now in
-    let e = c.road-at-road.ensures ∙ ap (road_of b) (c.from-number.ensures ∙ c.arrival-at.ensures) in
-    let t = not_from_true _ (judged-arrival b c.loop-i.i _ _ true (omega arith) c.loop-i.invariant.1 e c.if-not-arrives-later.ensures) in (
+    let e = c.road_at-road.ensures ∙ ap (road_of b) (c.from-number.ensures ∙ c.arrival_at.ensures) in
+    let t = not_from_true _ (judged-arrival b c.loop-i.i _ _ true (omega arith) c.loop-i.invariant.1 e c.if-not-arrives_later.ensures) in (
       (λ i l u. below_more (λ i. 0 ≤ i → not (right_arrival b i) ≡ false) c.loop-i.i (λ i u l. c.loop-i.invariant.0 i l u) (λ l. t) i u l),
       rw add-one (ap Some e),
     )

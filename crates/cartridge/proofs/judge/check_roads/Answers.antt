@@ -12,18 +12,18 @@ judged-road : (b : List ℕ) (r n : ℕ) (last : Option Road) (x : Road) (t : Bo
     t ≡ (within_limits n x && rises_by_start last x) → right_road b r ≡ t
 judged-road b r n last x t e f g h = rw (h, e, f, g)
 
-pub returns-then-not-may-follow : goal.returns-then-not-may-follow
-returns-then-not-may-follow c =
+pub returns-then-not-may_follow : goal.returns-then-not-may_follow
+returns-then-not-may_follow c =
     let b = c.args.bytes.now in
     refused_at (λ r. not (right_road b r)) (roads b) (λ r. WrongRoad (record { 0 = r })) c.loop-r.r (omega arith)
-    (not_from_false _ (judged-road b c.loop-r.r _ _ _ false c.place-count-places.ensures.count c.loop-r.invariant.1 c.road-at-road.ensures c.if-not-may-follow.ensures)) c.loop-r.invariant.0
+    (not_from_false _ (judged-road b c.loop-r.r _ _ _ false c.place_count-places.ensures.count c.loop-r.invariant.1 c.road_at-road.ensures c.if-not-may_follow.ensures)) c.loop-r.invariant.0
 
 pub loop-r-preserved : goal.loop-r-preserved
 loop-r-preserved c =
     let b = c.args.bytes.now in
-    let t = not_from_true _ (judged-road b c.loop-r.r _ _ _ true c.place-count-places.ensures.count c.loop-r.invariant.1 c.road-at-road.ensures c.if-not-may-follow.ensures) in (
+    let t = not_from_true _ (judged-road b c.loop-r.r _ _ _ true c.place_count-places.ensures.count c.loop-r.invariant.1 c.road_at-road.ensures c.if-not-may_follow.ensures) in (
       (λ i l u. below_more (λ i. 0 ≤ i → not (right_road b i) ≡ false) c.loop-r.r (λ i u l. c.loop-r.invariant.0 i l u) (λ l. t) i u l),
-      rw add-one (ap Some c.road-at-road.ensures),
+      rw add-one (ap Some c.road_at-road.ensures),
     )
 
 pub returns : goal.returns

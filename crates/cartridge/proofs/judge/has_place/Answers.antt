@@ -5,8 +5,8 @@ use Rattle.format.specs.Reading.{district_of}
 use Rattle.format.proofs.Verdicts.{stops_at, runs_out}
 use Rattle.cartridge.proofs.judge.has_place.Goals as goal
 
-pub returns-then-district-at-district : goal.returns-then-district-at-district
-returns-then-district-at-district c =
+pub returns-then-district_at-district : goal.returns-then-district_at-district
+returns-then-district_at-district c =
     let b = c.args.bytes.now in
     sym (ap is_some (stops_at (λ p. eqb (district_of b p) c.args.district) (places b) c.loop-p.p (omega arith) (grind (arith, nat_tests)) c.loop-p.invariant))
 

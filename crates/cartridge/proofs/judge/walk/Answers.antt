@@ -9,56 +9,56 @@ begin : (b : List ℕ) (p m : ℕ) → p ≡ places b → m ≡ roads b → Left
 unfolding fields
 begin b p m e f = record { is = rw (e, f) }
 
-pub returns-in-err-offset : goal.returns-in-err-offset
-returns-in-err-offset c =
-    leave (begin c.args.bytes.now _ _ refl refl) _ _ c.from-residual.ensures.1 c.in-err-offset.ensures
+pub returns-in_err-offset : goal.returns-in_err-offset
+returns-in_err-offset c =
+    leave (begin c.args.bytes.now _ _ refl refl) _ _ c.from_residual.ensures.1 c.in_err-offset.ensures
 
-pub returns-in-err-offset-2 : goal.returns-in-err-offset-2
-returns-in-err-offset-2 c =
-    let s = begin c.args.bytes.now _ _ c.place-count-places.ensures.count c.road-count-roads.ensures.count in
-    let s = step s c.in-ok-offset.ensures in
-    leave s _ _ c.from-residual-in-err-offset-2.ensures.1 c.in-err-offset-2.ensures
+pub returns-in_err-offset-2 : goal.returns-in_err-offset-2
+returns-in_err-offset-2 c =
+    let s = begin c.args.bytes.now _ _ c.place_count-places.ensures.count c.road_count-roads.ensures.count in
+    let s = step s c.in_ok-offset.ensures in
+    leave s _ _ c.from_residual-in_err-offset-2.ensures.1 c.in_err-offset-2.ensures
 
-pub returns-in-err-offset-3 : goal.returns-in-err-offset-3
-returns-in-err-offset-3 c =
-    let s = begin c.args.bytes.now _ _ c.place-count-places.ensures.count c.road-count-roads.ensures.count in
-    let s = step s c.in-ok-offset.ensures in
-    let s = step s c.in-ok-offset-2.ensures in
-    leave s _ _ c.from-residual-in-err-offset-3.ensures.1 c.in-err-offset-3.ensures
+pub returns-in_err-offset-3 : goal.returns-in_err-offset-3
+returns-in_err-offset-3 c =
+    let s = begin c.args.bytes.now _ _ c.place_count-places.ensures.count c.road_count-roads.ensures.count in
+    let s = step s c.in_ok-offset.ensures in
+    let s = step s c.in_ok-offset-2.ensures in
+    leave s _ _ c.from_residual-in_err-offset-3.ensures.1 c.in_err-offset-3.ensures
 
-pub returns-in-err-offset-4 : goal.returns-in-err-offset-4
-returns-in-err-offset-4 c =
-    let s = begin c.args.bytes.now _ _ c.place-count-places.ensures.count c.road-count-roads.ensures.count in
-    let s = step s c.in-ok-offset.ensures in
-    let s = step s c.in-ok-offset-2.ensures in
-    let s = step s c.in-ok-offset-3.ensures in
-    leave s _ _ c.from-residual-in-err-offset-4.ensures.1 c.in-err-offset-4.ensures
+pub returns-in_err-offset-4 : goal.returns-in_err-offset-4
+returns-in_err-offset-4 c =
+    let s = begin c.args.bytes.now _ _ c.place_count-places.ensures.count c.road_count-roads.ensures.count in
+    let s = step s c.in_ok-offset.ensures in
+    let s = step s c.in_ok-offset-2.ensures in
+    let s = step s c.in_ok-offset-3.ensures in
+    leave s _ _ c.from_residual-in_err-offset-4.ensures.1 c.in_err-offset-4.ensures
 
-pub returns-in-err-offset-5 : goal.returns-in-err-offset-5
-returns-in-err-offset-5 c =
-    let s = begin c.args.bytes.now _ _ c.place-count-places.ensures.count c.road-count-roads.ensures.count in
-    let s = step s c.in-ok-offset.ensures in
-    let s = step s c.in-ok-offset-2.ensures in
-    let s = step s c.in-ok-offset-3.ensures in
-    let s = step s c.in-ok-offset-4.ensures in
-    leave s _ _ c.from-residual-in-err-offset-5.ensures.1 c.in-err-offset-5.ensures
+pub returns-in_err-offset-5 : goal.returns-in_err-offset-5
+returns-in_err-offset-5 c =
+    let s = begin c.args.bytes.now _ _ c.place_count-places.ensures.count c.road_count-roads.ensures.count in
+    let s = step s c.in_ok-offset.ensures in
+    let s = step s c.in_ok-offset-2.ensures in
+    let s = step s c.in_ok-offset-3.ensures in
+    let s = step s c.in_ok-offset-4.ensures in
+    leave s _ _ c.from_residual-in_err-offset-5.ensures.1 c.in_err-offset-5.ensures
 
 pub returns-then-offset-bytes : goal.returns-then-offset-bytes
 returns-then-offset-bytes c =
-    let s = begin c.args.bytes.now _ _ c.place-count-places.ensures.count c.road-count-roads.ensures.count in
-    let s = step s c.in-ok-offset.ensures in
-    let s = step s c.in-ok-offset-2.ensures in
-    let s = step s c.in-ok-offset-3.ensures in
-    let s = step s c.in-ok-offset-4.ensures in
-    let s = step s c.in-ok-offset-5.ensures in
+    let s = begin c.args.bytes.now _ _ c.place_count-places.ensures.count c.road_count-roads.ensures.count in
+    let s = step s c.in_ok-offset.ensures in
+    let s = step s c.in_ok-offset-2.ensures in
+    let s = step s c.in_ok-offset-3.ensures in
+    let s = step s c.in_ok-offset-4.ensures in
+    let s = step s c.in_ok-offset-5.ensures in
     goes_past s c.if-offset-bytes.true
 
 pub returns : goal.returns
 returns c =
-    let s = begin c.args.bytes.now _ _ c.place-count-places.ensures.count c.road-count-roads.ensures.count in
-    let s = step s c.in-ok-offset.ensures in
-    let s = step s c.in-ok-offset-2.ensures in
-    let s = step s c.in-ok-offset-3.ensures in
-    let s = step s c.in-ok-offset-4.ensures in
-    let s = step s c.in-ok-offset-5.ensures in
+    let s = begin c.args.bytes.now _ _ c.place_count-places.ensures.count c.road_count-roads.ensures.count in
+    let s = step s c.in_ok-offset.ensures in
+    let s = step s c.in_ok-offset-2.ensures in
+    let s = step s c.in_ok-offset-3.ensures in
+    let s = step s c.in_ok-offset-4.ensures in
+    let s = step s c.in_ok-offset-5.ensures in
     ends s c.if-offset-bytes.false

@@ -3,8 +3,8 @@ use Rattle.format.proofs.Accepted.{accepted_facts}
 use Rattle.cartridge.proofs.Halving.{header_there, below_middle, above_middle}
 use Rattle.cartridge.proofs.listings.first_entry.Goals as goal
 
-pub road-count-high-requires : goal.road-count-high-requires
-road-count-high-requires c = let b = c.args.bytes.now in header_there b (accepted_facts b c.requires)
+pub road_count-high-requires : goal.road_count-high-requires
+road_count-high-requires c = let b = c.args.bytes.now in header_there b (accepted_facts b c.requires)
 
 pub loop-low-preserved-then-key-place : goal.loop-low-preserved-then-key-place
 loop-low-preserved-then-key-place c =
