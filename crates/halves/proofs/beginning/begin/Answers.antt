@@ -19,7 +19,7 @@ returns-then-i-labels g c =
     ap (λ l. improves o.thing o.leq c.args.zero (spot l c.args.start.0)) c.blank.ensures ∙ blank_improves o.thing o.leq n c.args.zero c.args.start.0 in
     let put = c.put.new.self in
     let at = c.from-i.result in
-    let is = c.start-label.ensures in
+    let is = c.start_label.ensures in
     record {
       labels = ap (set labels at) is ∙ ap₂ (λ l k. set l k (Reached c.args.zero Start)) c.blank.ensures c.from-i.ensures;
       agree = λ fits. subst (λ x. Agree o.thing o.leq (f.well put) (f.meaning put) (set labels at x)) (sym is) (offer_agrees o.thing o.leq c.args.zero Start labels c.from-i.result c.args.start.0 c.from-i.ensures c.if-i-labels.true wins

@@ -2,10 +2,10 @@ use Rattle.std.proofs.Common.{Some, None, sym, refl, ◌∙◌, arith, rules}
 use Rattle.halves.proofs.Departures.{departs, few_leave}
 use Rattle.halves.proofs.Bests.{best_all, best_on}
 use Rattle.halves.proofs.meetings.best_meeting.Goals as goal
-use Rattle.halves.proofs.meetings.best_meeting.Goals.{in-Some-road, in-default-road}
+use Rattle.halves.proofs.meetings.best_meeting.Goals.{in-Some-road, in_default-road}
 
-pub overflow-add-j : goal.overflow-add-j
-overflow-add-j g c =
+pub overflow_add-j : goal.overflow_add-j
+overflow_add-j g c =
     let m = g.G.Map.model c.args.map.now in
     let d = (departs m c.args.u.0 c.loop-number.j c.in-Some.number (sym c.departure.ensures ∙ c.in-Some.is)).within in
     let few = few_leave m c.args.u.0 (g.G.Map.sound c.args.map.now) in
@@ -17,8 +17,8 @@ loop-number-preserved g c =
     let dep = sym c.departure.ensures ∙ c.in-Some.is in
     elim c.match-road.branch [
       | in-Some-road w ↦ best_on _ _ _ _ _ _ _ inv c.in-Some.number dep (Some w.in-Some-road.road) (sym c.road.ensures ∙ w.in-Some-road.is) _ (w.best-is ∙ w.meet-best.ensures)
-      | in-default-road w ↦ best_on _ _ _ _ _ _ _ inv c.in-Some.number dep None (sym c.road.ensures ∙ w.in-default-road.is) _ w.best-is
+      | in_default-road w ↦ best_on _ _ _ _ _ _ _ inv c.in-Some.number dep None (sym c.road.ensures ∙ w.in_default-road.is) _ w.best-is
     ]
 
 pub returns : goal.returns
-returns g c = best_all _ _ _ _ _ _ _ c.loop-number.invariant (sym c.departure.ensures ∙ c.in-default.is)
+returns g c = best_all _ _ _ _ _ _ _ c.loop-number.invariant (sym c.departure.ensures ∙ c.in_default.is)
