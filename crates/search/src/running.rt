@@ -36,7 +36,7 @@ pub fn run<M: Measure + Copy, G: Map, B: Map, F: Fringe<M>, N: Fringe<M>>(
     far: &mut N,
     begun: Findings<M>,
 ) -> Findings<M>
-    ensures left { (G : Given M) (s t : ℕ) (x : Both M) → Begun M.Order.thing M.Order.leq M.Measure.plus M.Measure.nil M.Measure.top M.Measure.cost M.Measure.code M.Measure.decoded (G.Map.model map.now) (B.Map.model along.now.base.now) (B.Map.model against.now.base.now) along.now against.now (F.Fringe.well near.old) (F.Fringe.meaning near.old) (N.Fringe.well far.old) (N.Fringe.meaning far.old) fore.old back.old begun G s t x → Left (G.Map.model map.now) fore.new back.new result (run (ops_of M.Order.thing M.Order.leq M.Measure.plus M.Measure.nil M.Measure.top) ((G.Map.model map.now).places + (G.Map.model map.now).places) G s t x) }
+    ensures left { (asked : Given M) (s t : ℕ) (x : Both M) → Begun M.Order.thing M.Order.leq M.Measure.plus M.Measure.nil M.Measure.top M.Measure.cost M.Measure.code M.Measure.decoded (G.Map.model map.now) (B.Map.model along.now.base.now) (B.Map.model against.now.base.now) along.now against.now (F.Fringe.well near.old) (F.Fringe.meaning near.old) (N.Fringe.well far.old) (N.Fringe.meaning far.old) fore.old back.old begun asked s t x → Left (G.Map.model map.now) fore.new back.new result (run (ops_of M.Order.thing M.Order.leq M.Measure.plus M.Measure.nil M.Measure.top) ((G.Map.model map.now).places + (G.Map.model map.now).places) asked s t x) }
     ensures near { F.Fringe.well near.old → Steady (F.Fringe.well near.new) (F.Fringe.meaning near.old) (F.Fringe.meaning near.new) }
     ensures far { N.Fringe.well far.old → Steady (N.Fringe.well far.new) (N.Fringe.meaning far.old) (N.Fringe.meaning far.new) }
 {

@@ -104,7 +104,7 @@ pub fn advance<M: Measure + Copy, G: Map, F: Fringe<M>>(
     others: &[Label<M>],
     found: Findings<M>,
 ) -> Findings<M>
-    ensures shown { (back_of : ℕ → ℕ) (G : Given M) (s t : ℕ) (x : Both M) (o : Source) → SettledAt M.Measure.cost (G.Map.model map.now) back_of labels.old others.now found u.0 cost gate between G s t x o → Shown (start_at (G.Map.model map.now)) back_of labels.new others.now result (step (ops_of M.Order.thing M.Order.leq M.Measure.plus M.Measure.nil M.Measure.top) G s t x (record { place = u.0; cost = cost; origin = o })) }
+    ensures shown { (back_of : ℕ → ℕ) (asked : Given M) (s t : ℕ) (x : Both M) (o : Source) → SettledAt M.Measure.cost (G.Map.model map.now) back_of labels.old others.now found u.0 cost gate between asked s t x o → Shown (start_at (G.Map.model map.now)) back_of labels.new others.now result (step (ops_of M.Order.thing M.Order.leq M.Measure.plus M.Measure.nil M.Measure.top) asked s t x (record { place = u.0; cost = cost; origin = o })) }
     ensures agree { Agree M.Order.thing M.Order.leq (F.Fringe.well fringe.old) (F.Fringe.meaning fringe.old) labels.old → Agree M.Order.thing M.Order.leq (F.Fringe.well fringe.new) (F.Fringe.meaning fringe.new) labels.new }
     ensures steady { F.Fringe.well fringe.old → Steady (F.Fringe.well fringe.new) (F.Fringe.meaning fringe.old) (F.Fringe.meaning fringe.new) }
 {

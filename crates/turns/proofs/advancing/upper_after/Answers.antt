@@ -7,6 +7,6 @@ use Rattle.turns.proofs.advancing.upper_after.Goals as goal
 pub returns-then-ends-u : goal.returns-then-ends-u
 returns-then-ends-u g c = λ f.
     let O = ops_of g.M.Order.thing g.M.Order.leq g.M.Measure.plus g.M.Measure.nil g.M.Measure.top in
-    c.upper-through.ensures f ∙ ap (λ l. through O (label_view f l) c.args.cost c.args.upper) c.label-at.ensures
+    c.upper_through.ensures f ∙ ap (λ l. through O (label_view f l) c.args.cost c.args.upper) c.label_at.ensures
     ∙ sym (lowered_here O f c.args.others.now c.args.u.0 c.args.cost c.args.upper c.args.pair c.in-Some.ends c.in-Some.is
     (eq-eqb _ _ c.if-ends-u.true))
