@@ -15,7 +15,7 @@ returns g c =
       fringe = record { same_capacity = c.wipe.ensures.emptied.same_capacity ∙ (steady_on c.begin.ensures.steady c.spread-taken.ensures.steady).same_capacity; empty = c.wipe.ensures.emptied.empty };
       well = c.wipe.ensures.well;
       row = λ ready.
-          subst (RowPrepared o.thing o.leq k.plus k.nil k.top k.cost k.decoded (g.G.Map.model c.args.map.now) c.args.district.0) (sym c.with-count.ensures)
+          subst (RowPrepared o.thing o.leq k.plus k.nil k.top k.cost k.decoded (g.G.Map.model c.args.map.now) c.args.district.0) (sym c.with_count.ensures)
           (row_prepared o.thing o.leq g.met.M.Order.ordered k.plus k.nil k.top k.cost k.code c.fill-row.ensures.laws k.decoded
           (g.G.Map.model c.args.map.now) (g.G.Map.sound c.args.map.now) c.args.district.0 ready
           c.begin.new.labels c.spread-taken.new.labels c.spread-taken.new.firsts (record { row = c.fill-row.result; taken = c.spread-taken.result })

@@ -4,7 +4,7 @@ use Rattle.preparing.proofs.filling.fill.Goals as goal
 use Rattle.preparing.proofs.filling.fill.Goals.{then-j-from, else-j-from}
 
 pub loop-j-init : goal.loop-j-init
-loop-j-init g c = entered_none _ _ _ _ _ _ _ _ c.own-entry-own.result refl c.own-entry-own.ensures.own
+loop-j-init g c = entered_none _ _ _ _ _ _ _ _ c.own_entry-own.result refl c.own_entry-own.ensures.own
 
 pub loop-j-preserved : goal.loop-j-preserved
 loop-j-preserved g c =
@@ -14,4 +14,4 @@ loop-j-preserved g c =
     ]
 
 pub returns : goal.returns
-returns g c = record { laws = c.own-entry-own.ensures.laws; row = entered_all _ _ _ _ _ _ _ _ c.loop-j.invariant (omega arith) }
+returns g c = record { laws = c.own_entry-own.ensures.laws; row = entered_all _ _ _ _ _ _ _ _ c.loop-j.invariant (omega arith) }

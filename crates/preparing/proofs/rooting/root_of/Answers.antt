@@ -12,15 +12,15 @@ loop-init g c = λ k e.
 pub returns-in-None : goal.returns-in-None
 returns-in-None g c =
     let k = length c.args.labels.now - c.loop.counter in
-    sym (begins_here (start_at (g.G.Map.model c.args.map.now)) c.args.labels.now c.label-at.result k c.loop.at.0 c.label-at.ensures c.in-None.ensures)
+    sym (begins_here (start_at (g.G.Map.model c.args.map.now)) c.args.labels.now c.label_at.result k c.loop.at.0 c.label_at.ensures c.in-None.ensures)
     ∙ c.loop.invariant (suc k) (omega arith)
 
 pub loop-preserved : goal.loop-preserved
 loop-preserved g c = λ k e.
-    sym (goes_back (start_at (g.G.Map.model c.args.map.now)) c.args.labels.now c.label-at.result k c.loop.at.0 c.label-at.ensures c.in-Some.u.0 c.in-Some.ensures)
+    sym (goes_back (start_at (g.G.Map.model c.args.map.now)) c.args.labels.now c.label_at.result k c.loop.at.0 c.label_at.ensures c.in-Some.u.0 c.in-Some.ensures)
     ∙ c.loop.invariant (suc k) (omega arith)
 
 pub returns-in-Some : goal.returns-in-Some
 returns-in-Some g c =
-    sym (goes_back (start_at (g.G.Map.model c.args.map.now)) c.args.labels.now c.label-at.result 0 c.loop.at.0 c.label-at.ensures c.in-Some.u.0 c.in-Some.ensures)
+    sym (goes_back (start_at (g.G.Map.model c.args.map.now)) c.args.labels.now c.label_at.result 0 c.loop.at.0 c.label_at.ensures c.in-Some.u.0 c.in-Some.ensures)
     ∙ c.loop.invariant 1 (omega arith)
