@@ -11,8 +11,8 @@ returns-then-leaves g c =
     this_leaves m c.args.district.0 c.args.u.0 c.loop-number.j (some_leaves m c.args.district.0 (leaving m c.args.u.0)) c.loop-number.invariant
     c.in-Some.number c.departure.result c.departure.ensures c.in-Some.is c.if-leaves.ensures
 
-pub overflow-add-j : goal.overflow-add-j
-overflow-add-j g c =
+pub overflow_add-j : goal.overflow_add-j
+overflow_add-j g c =
     let m = g.G.Map.model c.args.map.now in
     let d = (departs m c.args.u.0 c.loop-number.j c.in-Some.number (sym c.departure.ensures ∙ c.in-Some.is)).within in
     let few = few_leave m c.args.u.0 (g.G.Map.sound c.args.map.now) in
@@ -26,4 +26,4 @@ loop-number-preserved g c =
 
 pub returns : goal.returns
 returns g c =
-    sym (none_left (g.G.Map.model c.args.map.now) c.args.district.0 c.args.u.0 c.loop-number.j (sym c.departure.ensures ∙ c.in-default.is)) ∙ c.loop-number.invariant
+    sym (none_left (g.G.Map.model c.args.map.now) c.args.district.0 c.args.u.0 c.loop-number.j (sym c.departure.ensures ∙ c.in_default.is)) ∙ c.loop-number.invariant

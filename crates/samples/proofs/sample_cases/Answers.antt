@@ -11,8 +11,8 @@ returns c = record {
   count = refl;
   expected = all_pass;
   fitting = all_fit;
-  rows-in-time = time_rows_hold;
-  rows-in-steepness = steep_rows_hold;
-  asked-in-time = time_asked;
-  asked-in-steepness = steep_asked;
+  rows_in_time = time_rows_hold;
+  rows_in_steepness = steep_rows_hold;
+  asked_in_time = time_asked;
+  asked_in_steepness = steep_asked;
 }

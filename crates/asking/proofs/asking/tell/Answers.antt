@@ -11,5 +11,5 @@ returns-then-less g c = λ n x left halved room.
     let O = ops_of o.thing o.leq k.plus k.nil k.top in
     let open_way : o.leq (o.thing k.top) (o.thing c.args.found.best) ≡ false =
     ap (λ z. o.leq (o.thing z) (o.thing c.args.found.best)) (sym c.blocked.ensures) ∙ not-true _ (sym c.if-less.ensures) in
-    tells_route O n x left open_way halved c.args.list.now c.write-route-places.new.list _ refl
-    (c.write-route-places.ensures n x (told_met O n x left open_way halved) room)
+    tells_route O n x left open_way halved c.args.list.now c.write_route-places.new.list _ refl
+    (c.write_route-places.ensures n x (told_met O n x left open_way halved) room)

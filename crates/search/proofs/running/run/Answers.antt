@@ -28,7 +28,7 @@ loop-round-preserved g c = (
       let O = ops_of o.thing o.leq k.plus k.nil k.top in
       let m = g.G.Map.model c.args.map.now in
       let n = m.places in
-      let i = c.loop-round.-round in
+      let i = c.loop-round._round in
       let y = run O (n + n) G s t x in
       let few : n < 2000 = omega (arith, (g.G.Map.sound c.args.map.now).few_places) in
       let inside : i < n = omega (arith, c.loop-round-test.true, b.ready.sized) in
@@ -49,7 +49,7 @@ returns-in-None g c = record {
       let O = ops_of o.thing o.leq k.plus k.nil k.top in
       let m = g.G.Map.model c.args.map.now in
       let n = m.places in
-      let i = c.loop-round.-round in
+      let i = c.loop-round._round in
       let y = run O (n + n) G s t x in
       let few : n < 2000 = omega (arith, (g.G.Map.sound c.args.map.now).few_places) in
       let inside : i < n = omega (arith, c.loop-round-test.true, b.ready.sized) in
@@ -68,7 +68,7 @@ returns-in-None-turn g c = record {
       let O = ops_of o.thing o.leq k.plus k.nil k.top in
       let m = g.G.Map.model c.args.map.now in
       let n = m.places in
-      let i = c.loop-round.-round in
+      let i = c.loop-round._round in
       let y = run O (n + n) G s t x in
       let few : n < 2000 = omega (arith, (g.G.Map.sound c.args.map.now).few_places) in
       let inside : i < n = omega (arith, c.loop-round-test.true, b.ready.sized) in
@@ -89,7 +89,7 @@ returns g c = record {
       let O = ops_of o.thing o.leq k.plus k.nil k.top in
       let m = g.G.Map.model c.args.map.now in
       let n = m.places in
-      left o.thing o.leq O (no_more o.thing o.leq O n m (turned_round m) refl G s t (run O (n + n) G s t x) c.loop-round.-round (omega (arith, c.loop-round-test.false, b.ready.sized)) (c.loop-round.invariant.0 G s t x b));
+      left o.thing o.leq O (no_more o.thing o.leq O n m (turned_round m) refl G s t (run O (n + n) G s t x) c.loop-round._round (omega (arith, c.loop-round-test.false, b.ready.sized)) (c.loop-round.invariant.0 G s t x b));
   near = c.loop-round.invariant.1;
   far = c.loop-round.invariant.2;
 }

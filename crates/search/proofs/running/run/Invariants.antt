@@ -17,7 +17,7 @@ invariant-loop-round g l =
     Begun o.thing o.leq k.plus k.nil k.top k.cost k.code k.decoded m (g.B.Map.model l.along.base.now) (g.B.Map.model l.against.base.now)
     l.along l.against (g.F.Fringe.well l.initial.near) (g.F.Fringe.meaning l.initial.near) (g.N.Fringe.well l.initial.far) (g.N.Fringe.meaning l.initial.far)
     l.initial.fore l.initial.back l.initial.found G s t x →
-    Rest o.thing o.leq O m (turned_round m) G s t ((n - l.-round) + (n - l.-round)) (l.-round + l.-round) (run O (n + n) G s t x)
+    Rest o.thing o.leq O m (turned_round m) G s t ((n - l._round) + (n - l._round)) (l._round + l._round) (run O (n + n) G s t x)
     (g.F.Fringe.well l.near) (g.F.Fringe.meaning l.near) (g.N.Fringe.well l.far) (g.N.Fringe.meaning l.far) l.fore l.back l.found)
     × (g.F.Fringe.well l.initial.near → Steady (g.F.Fringe.well l.near) (g.F.Fringe.meaning l.initial.near) (g.F.Fringe.meaning l.near))
     × (g.N.Fringe.well l.initial.far → Steady (g.N.Fringe.well l.far) (g.N.Fringe.meaning l.initial.far) (g.N.Fringe.meaning l.far))

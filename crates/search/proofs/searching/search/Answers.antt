@@ -33,8 +33,8 @@ returns g c = record {
       let back_room : lib.ListN.length c.args.back.now ≤ (g.N.Fringe.meaning c.args.far.now).capacity = omega (arith, a.back_sized, a.far_room) in
       c.run.ensures.left G s t (first O n s t) (record {
         laws = c.zero-zero.ensures.laws;
-        along_guided = guided_along k.plus k.nil k.cost k.decoded m base lawful sound table c.args.pairs s t ls lt _ refl refl (c.district-of-home.ensures ls) (c.district-of-away.ensures lt) refl;
-        against_guided = guided_against k.plus k.nil k.cost k.decoded m base lawful sound table c.args.pairs s t ls lt _ refl refl (c.district-of-away.ensures lt) (c.district-of-home.ensures ls) refl;
+        along_guided = guided_along k.plus k.nil k.cost k.decoded m base lawful sound table c.args.pairs s t ls lt _ refl refl (c.district_of-home.ensures ls) (c.district_of-away.ensures lt) refl;
+        against_guided = guided_against k.plus k.nil k.cost k.decoded m base lawful sound table c.args.pairs s t ls lt _ refl refl (c.district_of-away.ensures lt) (c.district_of-home.ensures ls) refl;
         grounds = record {
           along = fits_along k.plus k.nil k.cost k.decoded m base lawful sound table c.args.pairs;
           against = fits_against k.plus k.nil k.cost k.decoded m base lawful sound table c.args.pairs;

@@ -6,20 +6,20 @@ use Rattle.unit.specs.Refusing.{prepare_refusal, verdict}
 use Rattle.unit.proofs.Prepares.{goes_on, allowed, cut_length, prepare_stays, history_stays, prepare_fills, prepare_history}
 use Rattle.unit.proofs.units.Unit.prepare.Goals as goal
 
-pub returns-in-err-may-prepare : goal.returns-in-err-may-prepare
-returns-in-err-may-prepare g c =
+pub returns-in_err-may_prepare : goal.returns-in_err-may_prepare
+returns-in_err-may_prepare g c =
     let o = g.M.Order in
     let k = g.M.Measure in
     let base = g.G.Map.model c.args.self.now.map.below.below in
-    let p = err_from_is_err_and c.from-residual.result c.from-residual.ensures.1 in
+    let p = err_from_is_err_and c.from_residual.result c.from_residual.ensures.1 in
     let is = p.1 ∙ ap Err p.2 in
     record {
       done = prepare_stays o.thing o.leq k.plus k.nil k.top k.cost k.decoded base
           (prepare_refusal base c.args.district.0 (length c.args.first.now) (length c.args.second.now) (g.F.Fringe.meaning c.args.fringe.now).capacity)
-          c.in-err-may-prepare.field-0.0 (sym c.in-err-may-prepare.was ∙ c.may-prepare.ensures ∙ ap (λ z. verdict (prepare_refusal base c.args.district.0 (length c.args.first.now) (length c.args.second.now) z)) c.capacity.ensures) c.args.district.0 c.args.self.now c.args.first.now c.args.second.now g.F.Fringe.well g.F.Fringe.meaning c.args.fringe.now
-          c.from-residual.result is;
-      history = λ h left. history_stays o.thing o.leq k.plus k.nil k.top k.cost k.decoded base h (Prepare c.args.district) c.in-err-may-prepare.field-0.0
-          c.from-residual.result is c.args.self.now.map c.args.self.now.table left;
+          c.in_err-may_prepare.field-0.0 (sym c.in_err-may_prepare.was ∙ c.may_prepare.ensures ∙ ap (λ z. verdict (prepare_refusal base c.args.district.0 (length c.args.first.now) (length c.args.second.now) z)) c.capacity.ensures) c.args.district.0 c.args.self.now c.args.first.now c.args.second.now g.F.Fringe.well g.F.Fringe.meaning c.args.fringe.now
+          c.from_residual.result is;
+      history = λ h left. history_stays o.thing o.leq k.plus k.nil k.top k.cost k.decoded base h (Prepare c.args.district) c.in_err-may_prepare.field-0.0
+          c.from_residual.result is c.args.self.now.map c.args.self.now.table left;
     }
 
 pub returns : goal.returns
@@ -29,19 +29,19 @@ returns g c =
     let base = g.G.Map.model c.args.self.now.map.below.below in
     let sound = g.G.Map.sound c.args.self.now.map.below.below in
     let none = goes_on (prepare_refusal base c.args.district.0 (length c.args.first.now) (length c.args.second.now) (g.F.Fringe.meaning c.args.fringe.now).capacity)
-    c.in-ok-may-prepare.field-0 (sym c.in-ok-may-prepare.was ∙ c.may-prepare.ensures ∙ ap (λ z. verdict (prepare_refusal base c.args.district.0 (length c.args.first.now) (length c.args.second.now) z)) c.capacity.ensures) in
+    c.in_ok-may_prepare.field-0 (sym c.in_ok-may_prepare.was ∙ c.may_prepare.ensures ∙ ap (λ z. verdict (prepare_refusal base c.args.district.0 (length c.args.first.now) (length c.args.second.now) z)) c.capacity.ensures) in
     let ok = allowed base c.args.district.0 (length c.args.first.now) (length c.args.second.now) (g.F.Fringe.meaning c.args.fringe.now).capacity none in
-    let good = c.prepare-row-prepared.ensures.row (record {
+    let good = c.prepare_row-prepared.ensures.row (record {
       known = ok.known;
       sized = ap (λ z. length (mid_of 0 (z - 0) c.args.first.now)) c.places-n.ensures ∙ cut_length base.places c.args.first.now ok.first_room;
       room = ok.fringe_room;
     }) in
     record {
       done = prepare_fills o.thing o.leq k.plus k.nil k.top k.cost k.decoded base sound c.args.district c.args.self.now c.args.first.now c.args.second.now
-          (g.F.Fringe.meaning c.args.fringe.now).capacity ok c.fill.new.self c.prepare-row-prepared.result c.fill.ensures good
-          c.places-n.result c.places-n.ensures c.prepare-row-prepared.new.labels c.blank.new.labels c.prepare-row-prepared.ensures.labels c.blank.ensures
-          g.F.Fringe.well g.F.Fringe.meaning c.args.fringe.now c.prepare-row-prepared.new.fringe c.prepare-row-prepared.ensures.fringe c.prepare-row-prepared.ensures.well
+          (g.F.Fringe.meaning c.args.fringe.now).capacity ok c.fill.new.self c.prepare_row-prepared.result c.fill.ensures good
+          c.places-n.result c.places-n.ensures c.prepare_row-prepared.new.labels c.blank.new.labels c.prepare_row-prepared.ensures.labels c.blank.ensures
+          g.F.Fringe.well g.F.Fringe.meaning c.args.fringe.now c.prepare_row-prepared.new.fringe c.prepare_row-prepared.ensures.fringe c.prepare_row-prepared.ensures.well
           (prepare_refusal base c.args.district.0 (length c.args.first.now) (length c.args.second.now) (g.F.Fringe.meaning c.args.fringe.now).capacity) none;
       history = prepare_history o.thing o.leq k.plus k.nil k.top k.cost k.decoded base sound c.args.district c.args.self.now c.args.first.now c.args.second.now
-          (g.F.Fringe.meaning c.args.fringe.now).capacity ok c.fill.new.self c.prepare-row-prepared.result c.fill.ensures good;
+          (g.F.Fringe.meaning c.args.fringe.now).capacity ok c.fill.new.self c.prepare_row-prepared.result c.fill.ensures good;
     }
