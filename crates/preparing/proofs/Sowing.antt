@@ -82,8 +82,8 @@ module _ {C T F : Type 0} (thing : C → T) (leq : T → T → Bool) (well : F �
     }
 
     -- a place of the district
-    pub sowing_on : {labels' : List (Label C)} {f' : F} (c : C) → c ≡ nil → is_of m d i ≡ true → ReachedAt thing leq well meaning labels f i c labels' f' → Sowing labels' f' (i + 1)
-    sowing_on {labels'} {f'} c free yes' r = record {
+    pub sowing_on : {labels' : List (Label C)} {f' : F} (c : C) → c ≡ nil → is_of m d i ≡ true → ReachedAt thing leq well meaning labels f i c labels' f' → (well f → Steady (well f') (meaning f) (meaning f')) → Sowing labels' f' (i + 1)
+    sowing_on {labels'} {f'} c free yes' r steady = record {
       sized = ap length r.labels ∙ length-set labels i (Reached c Start) ∙ so_far.sized;
       done = λ v l k. ap (λ z. spot z v) r.labels ∙ ⊎_elim
           (λ (e : v ≡ i). subst (λ z. spot (set labels i (Reached c Start)) z ≡ first_label m d nil z) (sym e)
@@ -92,7 +92,7 @@ module _ {C T F : Type 0} (thing : C → T) (leq : T → T → Bool) (well : F �
           (cases_eq v i);
       ahead = λ v l. ap (λ z. spot z v) r.labels ∙ get_or-set_other labels i v (Reached c Start) Blank (λ e. omega (arith, e, l)) ∙ so_far.ahead v (omega (arith, l));
       agree = λ l. r.agree (so_far.ahead i (omega arith)) (so_far.agree l);
-      steady = let s = so_far.steady in let t = r.steady s.in_order in record { in_order = t.in_order; same_capacity = t.same_capacity ∙ s.same_capacity };
+      steady = let s = so_far.steady in let t = steady s.in_order in record { in_order = t.in_order; same_capacity = t.same_capacity ∙ s.same_capacity };
     }
 
     pub sowing_all : m.places ≤ i → Sown m d nil n labels

@@ -6,7 +6,7 @@ use Rattle.routes.specs.declared.labels.Origin.TheVariants.{Start}
 use Rattle.routes.specs.declared.labels.Label.{Label}
 use Rattle.routes.specs.declared.labels.Label.TheVariants.{Blank, Reached}
 use Rattle.halves.specs.Labels.{spot}
-use Rattle.halves.specs.Agreement.{Agree, Steady}
+use Rattle.halves.specs.Agreement.{Agree}
 
 -- The place v is one of the district d.
 abbrev pub is_of : MapModel → ℕ → ℕ → Bool
@@ -21,10 +21,8 @@ pub record Sown {C : Type 0} (m : MapModel) (d : ℕ) (nil : C) (n : ℕ) (label
   pub sized : length labels ≡ n
   pub each : (v : ℕ) → v < n → spot labels v ≡ first_label m d nil v
 
--- The place v was reached at c as a start. Where its label was blank and the fringe agreed, the fringe agrees, and a
--- fringe that was in order is.
+-- The place v was reached at c as a start. Where its label was blank and the fringe agreed, the fringe agrees.
 pub record ReachedAt {C T F : Type 0} (thing : C → T) (leq : T → T → Bool) (well : F → Type 0) (meaning : F → Meaning C)
     (before : List (Label C)) (f : F) (v : ℕ) (c : C) (after : List (Label C)) (f' : F) : Type 0 where
   pub labels : after ≡ slice_set before v (Reached c Start)
   pub agree : spot before v ≡ Blank → Agree thing leq (well f) (meaning f) before → Agree thing leq (well f') (meaning f') after
-  pub steady : well f → Steady (well f') (meaning f) (meaning f')

@@ -41,7 +41,8 @@ fn reach<C: Order + Copy, F: Fringe<C>>(
     place: Place,
     cost: C,
 )
-    ensures { ReachedAt C.Order.thing C.Order.leq F.Fringe.well F.Fringe.meaning labels.old fringe.old place.0 cost labels.new fringe.new }
+    ensures reached { ReachedAt C.Order.thing C.Order.leq F.Fringe.well F.Fringe.meaning labels.old fringe.old place.0 cost labels.new fringe.new }
+    ensures steady { F.Fringe.well fringe.old → Steady (F.Fringe.well fringe.new) (F.Fringe.meaning fringe.old) (F.Fringe.meaning fringe.new) }
 {
     let i = usize::from(place.0);
     if i < labels.len() {

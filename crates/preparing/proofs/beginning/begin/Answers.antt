@@ -16,7 +16,7 @@ pub loop-i-preserved : goal.loop-i-preserved
 loop-i-preserved g c =
     elim c.if-inhabits.branch [
       | then-inhabits w ↦ sowing_same _ _ _ _ _ _ _ _ _ w.labels-is w.fringe-is
-          (sowing_on _ _ _ _ _ _ _ _ _ c.loop-i.invariant w.zero.result w.zero.ensures.exact (sym w.if-inhabits.ensures) w.reach.ensures)
+          (sowing_on _ _ _ _ _ _ _ _ _ c.loop-i.invariant w.zero.result w.zero.ensures.exact (sym w.if-inhabits.ensures) w.reach.ensures.reached w.reach.ensures.steady)
       | else-inhabits w ↦ sowing_same _ _ _ _ _ _ _ _ _ w.labels-is w.fringe-is
           (sowing_past _ _ _ _ _ _ _ _ _ c.loop-i.invariant (sym w.if-inhabits.ensures))
     ]

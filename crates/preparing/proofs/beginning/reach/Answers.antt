@@ -10,15 +10,19 @@ returns-then-i-labels g c =
     let o = g.C.Order in
     let labels = c.args.labels.now in
     record {
-      labels = ap (λ k. set labels k (Reached c.args.cost Start)) c.from-i.ensures;
-      agree = λ was a. reach_agrees o.thing o.leq labels c.from-i.result c.args.place.0 c.args.cost c.from-i.ensures (omega arith) was a
-          (c.put.ensures.put a.in_order) (c.put.ensures.well a.in_order);
+      reached = record {
+        labels = ap (λ k. set labels k (Reached c.args.cost Start)) c.from-i.ensures;
+        agree = λ was a. reach_agrees o.thing o.leq labels c.from-i.result c.args.place.0 c.args.cost c.from-i.ensures (omega arith) was a
+            (c.put.ensures.put a.in_order) (c.put.ensures.well a.in_order);
+      };
       steady = λ w. record { in_order = c.put.ensures.well w; same_capacity = (c.put.ensures.put w).same_capacity };
     }
 
 pub returns-else-i-labels : goal.returns-else-i-labels
 returns-else-i-labels g c = record {
-  labels = sym (set_out c.args.labels.now c.args.place.0 _ (omega (arith, c.from-i.ensures)));
-  agree = λ _ a. a;
+  reached = record {
+    labels = sym (set_out c.args.labels.now c.args.place.0 _ (omega (arith, c.from-i.ensures)));
+    agree = λ _ a. a;
+  };
   steady = λ w. record { in_order = w; same_capacity = refl };
 }
