@@ -12,7 +12,9 @@ import os
 import re
 
 TOP = os.path.dirname(os.path.dirname(os.path.abspath(__file__)))
-WORD = re.compile(r"(?<![\w'-])[A-Za-z_][\w']*(?:-[\w']+)+(?![\w'-])")
+# A name's parts are letters or signs: free-⊕, sum-++.
+PART = r"[\w'≼⊕≡+]+"
+WORD = re.compile(rf"(?<![\w'≼⊕≡+-]){PART}(?:-{PART})+(?![\w'≼⊕≡+-])")
 SPAN = re.compile(r"`[^`\n]*`")
 STRING = re.compile(r'"(?:\\.|[^"\\\n])*"')
 

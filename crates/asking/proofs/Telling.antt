@@ -1,5 +1,5 @@
 -- What is told of the state that a search left.
-use Rattle.std.proofs.Common.{◌≡◌, ℕ, ◌≤◌, Bool, true, false, List, length, Some, None, Option, sym, refl, ap, ◌∙◌, subst}
+use Rattle.std.proofs.Common.{◌≡◌, ℕ, Bool, true, false, List, Some, None, Option, sym, ap, ◌∙◌, subst}
 use Rattle.fringe.specs.declared.place.Place.{Place}
 use Rattle.map.specs.Model.{MapModel}
 use Rattle.routes.specs.declared.labels.Label.{Label}

@@ -1,12 +1,12 @@
 -- The keys of both lists do not fall.
-use Rattle.std.proofs.Common.{◌≡◌, ℕ, ◌+◌, ◌*◌, ◌<◌, ◌≤◌, List, length, arith}
+use Rattle.std.proofs.Common.{ℕ, ◌+◌, ◌*◌, ◌<◌, ◌≤◌, List, length, arith}
 use Rattle.format.specs.Bytes.{places, roads, roads_at, arrivals_at}
 use Rattle.format.specs.Reading.{road_of, arriving}
-use Rattle.format.proofs.Accepted.{Facts, roads_rise, arrivals_rise, arrival_known}
+use Rattle.format.proofs.Accepted.{Facts, roads_rise, arrivals_rise}
 use Rattle.format.proofs.Rising.{climbing}
 use Rattle.cartridge.specs.declared.listings.Direction.{Direction}
 use Rattle.cartridge.specs.declared.listings.Direction.TheVariants.{Outward, Inward}
-use Rattle.cartridge.specs.Listings.{entry_of, key_of}
+use Rattle.cartridge.specs.Listings.{key_of}
 
 module _ (b : List ℕ) (f : Facts b) where
   pub keys_climb : (d : Direction) (i j : ℕ) → i ≤ j → j < roads b → key_of b d i ≤ key_of b d j

@@ -1,13 +1,12 @@
 -- The entries of a place, from the first on, are what the place lists.
-use Rattle.std.proofs.Common.{◌≡◌, ℕ, ◌+◌, ◌-◌, ◌<◌, ◌≤◌, Bool, true, false, cond, eqb, ltb, ◌⊎◌, List, map, length, get_or, Some, None, Option, sym, refl, ap, ◌∙◌, subst, inl, inr, arith}
+use Rattle.std.proofs.Common.{◌≡◌, ℕ, ◌+◌, ◌-◌, ◌<◌, ◌≤◌, ◌⊎◌, List, length, get_or, Some, None, ap, ◌∙◌, inl, inr, arith}
 use Rattle.std.proofs.lemmas.List.{get_or-map, length-map}
 use Rattle.std.proofs.lemmas.Bool.{lt-ltb, le-ltb, ne_eqb}
-use Rattle.map.specs.declared.numbers.RoadId.{RoadId}
 use Rattle.map.specs.Model.{listed_at}
 use Rattle.format.specs.Bytes.{places, roads}
 use Rattle.format.specs.Picks.{picked}
-use Rattle.format.specs.Reading.{road_of, arrival_of, arriving}
-use Rattle.format.proofs.Picks.{In, NoneOf, Climbs, keyed, picked_skip, run_in, run_out}
+use Rattle.format.specs.Reading.{arrival_of}
+use Rattle.format.proofs.Picks.{Climbs, keyed, picked_skip, run_in, run_out}
 use Rattle.format.proofs.Accepted.{Facts}
 use Rattle.cartridge.specs.declared.listings.Direction.{Direction}
 use Rattle.cartridge.specs.declared.listings.Direction.TheVariants.{Outward, Inward}

@@ -1,6 +1,5 @@
 -- What reading bytes into a cartridge answers and leaves.
 use Rattle.std.specs.Prelude.{◌≡◌, ℕ, List, [], ◌∷◌, Ok, Err, Result}
-use Rattle.map.specs.Model.{MapModel}
 use Rattle.format.specs.declared.Refusal.{Refusal}
 use Rattle.format.specs.Reading.{read, map_in}
 

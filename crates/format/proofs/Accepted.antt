@@ -1,15 +1,15 @@
 -- What an accepted cartridge keeps, fact by fact.
-use Rattle.std.proofs.Common.{◌≡◌, ℕ, zero, suc, ◌+◌, ◌*◌, ◌<◌, ◌≤◌, Bool, true, false, cond, not, ◌&&◌, eqb, ltb, leb, List, [], ◌∷◌, length, is_some, Some, None, Option, sym, refl, ap, ◌∙◌, subst, arith}
+use Rattle.std.proofs.Common.{◌≡◌, ℕ, suc, ◌+◌, ◌*◌, ◌<◌, ◌≤◌, Bool, true, false, not, ◌&&◌, eqb, ltb, leb, List, [], ◌∷◌, length, is_some, Some, None, Option, refl, arith}
 use Rattle.std.specs.Option.{option_map}
-use Rattle.std.proofs.lemmas.Bool.{not-false, leb-true, ltb-true, eqb-false, and_parts}
+use Rattle.std.proofs.lemmas.Bool.{not-false, leb-true, ltb-true, and_parts}
 use Rattle.std.proofs.lemmas.Bool.Decides.{nat_tests}
 use Rattle.map.specs.declared.roads.Road.{Road}
 use Rattle.format.specs.declared.Refusal.{Refusal}
 use Rattle.format.specs.declared.Refusal.TheVariants.{Cut, WrongTag, WrongLength}
 use Rattle.format.specs.Bytes.{byte, number, places, districts, roads, whole}
 use Rattle.format.specs.Picks.{first}
-use Rattle.format.specs.Reading.{and_then, unless, field, walked, fields, counts, contents, known_districts, inhabited_districts, right_roads, right_arrivals, judged, accepts, district_of, has_place, road_of, arrival_of, arriving, right_road, right_arrival, within_limits, rises_by_start, rises_by_end, previous, before}
-use Rattle.format.proofs.Picks.{none_of, found_in}
+use Rattle.format.specs.Reading.{and_then, unless, field, walked, fields, counts, contents, known_districts, inhabited_districts, right_roads, right_arrivals, judged, accepts, district_of, has_place, road_of, arrival_of, arriving, right_road, right_arrival, within_limits, rises_by_start, rises_by_end, previous}
+use Rattle.format.proofs.Picks.{none_of}
 use Rattle.format.proofs.Rising.{Steps, before_holds}
 
 -- neither of two judgements refuses

@@ -1,14 +1,14 @@
 -- The map in an accepted cartridge keeps the rules of maps.
-use Rattle.std.proofs.Common.{◌≡◌, ℕ, zero, suc, ◌+◌, ◌*◌, ◌<◌, ◌≤◌, Bool, true, false, cond, eqb, ltb, ◌⊎◌, List, map, length, get_or, is_some, Some, None, Option, sym, refl, ap, ◌∙◌, subst, inl, inr, arith}
+use Rattle.std.proofs.Common.{◌≡◌, ℕ, ◌<◌, Bool, true, false, eqb, ltb, List, map, length, get_or, is_some, Some, None, Option, sym, refl, ap, ◌∙◌, subst, inl, inr, arith}
 use Rattle.std.proofs.lemmas.List.{get_or-map, length-map}
 use Rattle.std.proofs.lemmas.Bool.{cases_Bool, cases_order, eq-eqb, eqb-true, ltb-true, lt-ltb}
 use Rattle.map.specs.declared.roads.Road.{Road}
-use Rattle.map.specs.Model.{MapModel, WellFormed, RoadFits, Lists, Touches, Stands, Inhabited}
+use Rattle.map.specs.Model.{WellFormed, RoadFits, Lists, Inhabited}
 use Rattle.format.specs.Bytes.{places, districts, roads}
 use Rattle.format.specs.Picks.{picked, first}
-use Rattle.format.specs.Reading.{accepts, map_in, district_of, has_place, road_of, arrival_of, arriving}
-use Rattle.format.proofs.Picks.{In, Rising, found_in, picked_passing, picked_complete, picked_rising}
-use Rattle.format.proofs.Pigeons.{Injects, Takes, all_taken}
+use Rattle.format.specs.Reading.{accepts, map_in, district_of, road_of, arrival_of, arriving}
+use Rattle.format.proofs.Picks.{Rising, found_in, picked_passing, picked_complete, picked_rising}
+use Rattle.format.proofs.Pigeons.{Injects, all_taken}
 use Rattle.format.proofs.Rising.{apart}
 use Rattle.format.proofs.Accepted.{Facts, accepted_facts, road_limits, roads_rise, arrival_known, arrivals_rise}
 

@@ -1,5 +1,5 @@
 -- What draining a fringe promises, over what the fringe holds before and after and the entries written down.
-use Rattle.std.specs.Prelude.{◌≡◌, ℕ, ◌<◌, Bool, true, List, length, Some, None, Option, ◌≢◌}
+use Rattle.std.specs.Prelude.{◌≡◌, ℕ, ◌<◌, Bool, true, List, length, Some, None, ◌≢◌}
 use Rattle.std.specs.List.{slice_get}
 use Rattle.fringe.specs.declared.place.Place.{Place}
 use Rattle.fringe.specs.Fringes.{Meaning, Empty, Alike}

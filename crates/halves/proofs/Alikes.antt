@@ -1,5 +1,5 @@
 -- Costs that stand for one thing.
-use Rattle.std.proofs.Common.{◌≡◌, ℕ, Bool, cond, Some, None, Option, sym, refl, ap, ◌∙◌, ⊎_elim, arith}
+use Rattle.std.proofs.Common.{◌≡◌, ℕ, Bool, Some, None, Option, sym, refl, ap, ◌∙◌, ⊎_elim, arith}
 use Rattle.std.proofs.lemmas.Bool.{cases_Bool, cond-true, cond-false}
 use Rattle.std.specs.Option.{option_map}
 use Rattle.fringe.specs.Fringes.{Alike, lowered}

@@ -1,5 +1,5 @@
 -- Expanding a place, on labels as the search has them, is relaxing its roads as the search does.
-use Rattle.std.proofs.Common.{◌≡◌, ℕ, zero, suc, ◌<◌, Bool, true, false, cond, not, ltb, List, [], ◌∷◌, length, get_or, set, Some, None, Option, sym, refl, ap, ◌∙◌, subst, arith}
+use Rattle.std.proofs.Common.{◌≡◌, ℕ, suc, ◌<◌, Bool, true, false, cond, not, ltb, List, [], ◌∷◌, length, get_or, set, Some, None, Option, sym, refl, ap, ◌∙◌, arith}
 use mathlib.Core.Option.{some}
 use Rattle.std.proofs.lemmas.Bool.{lt-ltb, cond-true}
 use Rattle.fringe.specs.Orders.{TotalOrder}
@@ -17,7 +17,7 @@ use Rattle.routes.specs.Labels.{start_at, origin_view, label_view, labels_view}
 use Rattle.routes.specs.Search.{Ops, ops_of, Given, label_at}
 use Rattle.routes.specs.Search as search_spec
 use Rattle.routes.specs.Rows as R
-use Rattle.routes.specs.Asking.{Table, given, is_open, in_front, row_of, open_roads}
+use Rattle.routes.specs.Asking.{Table, given, is_open, in_front, row_of}
 use Rattle.routes.proofs.Along as along_rows
 use Rattle.routes.proofs.LabelViews.{start_at_is, view_length, view_at, view_set}
 use Rattle.halves.specs.Labels.{spot, offered, offered_at}

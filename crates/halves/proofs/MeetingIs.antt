@@ -1,5 +1,5 @@
 -- The best meeting place, on labels as the search has them, is the least sum of the search.
-use Rattle.std.proofs.Common.{◌≡◌, ℕ, zero, suc, ◌<◌, Bool, true, false, cond, not, ◌&&◌, ◌||◌, ltb, leb, List, [], ◌∷◌, length, Some, None, Option, sym, refl, ap, ◌∙◌, ap₂, ⊎_elim, arith}
+use Rattle.std.proofs.Common.{◌≡◌, ℕ, ◌<◌, Bool, true, false, cond, not, ◌&&◌, ◌||◌, ltb, leb, List, [], ◌∷◌, Some, None, Option, sym, refl, ap, ◌∙◌, ap₂, ⊎_elim}
 use mathlib.Core.Option.{Option as Maybe, some, none}
 use Rattle.std.proofs.lemmas.Bool.{cases_lt, lt-ltb, le-ltb, le-leb, lt-leb}
 use Rattle.fringe.specs.Orders.{TotalOrder}
@@ -12,7 +12,7 @@ use Rattle.measure.specs.Costs.{CostLaws}
 use Rattle.routes.specs.declared.labels.Label.{Label}
 use Rattle.routes.specs.declared.labels.Label.TheVariants.{Blank, Reached, Settled}
 use Rattle.routes.specs.States.{Start}
-use Rattle.routes.specs.Labels.{start_at, label_view, labels_view}
+use Rattle.routes.specs.Labels.{label_view, labels_view}
 use Rattle.routes.specs.Search.{Ops, ops_of, Found, label_at, cost_of}
 use Rattle.routes.specs.Search as search_spec
 use Rattle.routes.specs.Rows as R

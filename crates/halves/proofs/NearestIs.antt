@@ -1,5 +1,5 @@
 -- Settling the least, on labels as the search has them, settles the nearest place of the search.
-use Rattle.std.proofs.Common.{◌≡◌, ℕ, ◌<◌, ◌≤◌, Bool, true, false, List, length, set, Some, None, sym, refl, ap, ◌∙◌, subst, ⊎_elim, zero-add, arith}
+use Rattle.std.proofs.Common.{◌≡◌, ℕ, Bool, List, set, Some, sym, refl, ap, ◌∙◌, subst, ⊎_elim, zero-add, arith}
 use mathlib.Core.Option.{Option as Maybe, some, none}
 use Rattle.std.proofs.lemmas.Bool.{cases_lt, both_ways}
 use Rattle.fringe.specs.Orders.{TotalOrder}

@@ -1,5 +1,5 @@
 -- The least taken from the fringe and settled.
-use Rattle.std.proofs.Common.{◌≡◌, ℕ, ◌<◌, ◌≤◌, Bool, true, false, List, length, set, Some, None, Option, sym, refl, ap, ◌∙◌, subst, ⊎_elim, arith, length-set, get_or-set_other, get_or-set_same}
+use Rattle.std.proofs.Common.{◌≡◌, ℕ, ◌<◌, ◌≤◌, Bool, List, length, set, Some, None, sym, refl, ap, ◌∙◌, subst, ⊎_elim, arith, length-set, get_or-set_other, get_or-set_same}
 use lib.Seq.{set_out}
 use Rattle.std.proofs.lemmas.List.{get_or_past}
 use Rattle.std.proofs.lemmas.Bool.{cases_eq, cases_lt}
@@ -10,7 +10,7 @@ use Rattle.routes.specs.declared.labels.Label.{Label}
 use Rattle.routes.specs.declared.labels.Label.TheVariants.{Blank, Reached, Settled}
 use Rattle.halves.specs.Labels.{spot, waiting, finished, settled_at, paired}
 use Rattle.halves.specs.Agreement.{Agree}
-use Rattle.halves.specs.Settling.{Settles, Idle, Settling}
+use Rattle.halves.specs.Settling.{Idle, Settling}
 use Rattle.halves.proofs.Alikes.{never, same_some, Like, like, like_none}
 
 no_longer : {C : Type 0} (l : Label C) → waiting (finished l) ≡ None

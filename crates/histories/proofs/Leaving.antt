@@ -1,5 +1,5 @@
 -- How calls on the layers leave a unit.
-use Rattle.std.proofs.Common.{◌≡◌, ℕ, Bool, true, List, [], Some, None, Ok, Err, Option, Result, sym, refl, ap, ◌∙◌, subst}
+use Rattle.std.proofs.Common.{◌≡◌, ℕ, Bool, List, Some, None, Ok, Err, Option, Result, sym, refl, ap, ◌∙◌, subst}
 use Rattle.std.specs.Option.{option_map}
 use Rattle.map.specs.declared.numbers.RoadId.{RoadId}
 use Rattle.map.specs.declared.roads.Road.{Road}

@@ -2,12 +2,11 @@
 use Rattle.std.proofs.Common.{◌≡◌, ℕ, ◌≤◌, Bool, true, false, ◌&&◌, eqb, List, take, Some, None, Option, sym, refl, ap, ◌∙◌, arith}
 use Rattle.std.specs.Option.{option_map}
 use Rattle.std.proofs.lemmas.Bool.{and_parts, eqb-true}
-use Rattle.map.specs.declared.roads.Mark.{Mark}
-use Rattle.map.specs.declared.roads.Mark.TheVariants.{Open, Closed}
+use Rattle.map.specs.declared.roads.Mark.TheVariants.{Open}
 use Rattle.map.specs.declared.roads.Road.{Road}
 use Rattle.map.specs.Model.{MapModel, WellFormed}
 use Rattle.map.specs.Through.{through}
-use Rattle.map.proofs.Through.{Was, was}
+use Rattle.map.proofs.Through.{was}
 use Rattle.entries.specs.declared.tables.ClosedRoads.{ClosedRoads}
 use Rattle.entries.specs.declared.tables.SlowedRoads.{SlowedRoads}
 use Rattle.entries.specs.Entries.{closed_road, has}

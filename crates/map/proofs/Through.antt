@@ -1,9 +1,9 @@
 -- A map with each road read through a function keeps the rules of maps, if the function keeps a road's ends and limits.
-use Rattle.std.proofs.Common.{◌≡◌, ℕ, ◌<◌, ◌≤◌, List, length, get_or, Some, None, Option, sym, refl, ap, ◌∙◌, subst, arith}
+use Rattle.std.proofs.Common.{◌≡◌, ℕ, ◌≤◌, List, get_or, Some, None, Option, sym, refl, ap, ◌∙◌, subst, arith}
 use Rattle.std.specs.Option.{option_map}
 use Rattle.fringe.specs.declared.place.Place.{Place}
 use Rattle.map.specs.declared.roads.Road.{Road}
-use Rattle.map.specs.Model.{MapModel, RoadFits, Touches, Stands, Lists, WellFormed}
+use Rattle.map.specs.Model.{MapModel, RoadFits, Lists, WellFormed}
 use Rattle.map.specs.Through.{through}
 
 -- The road y has the ends and the steepness of x, and keeps the limit on seconds if x does.

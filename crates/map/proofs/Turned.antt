@@ -1,12 +1,12 @@
 -- A map turned round keeps the rules of maps, and turned twice it is the map that it was.
-use Rattle.std.proofs.Common.{◌≡◌, ℕ, ◌<◌, ◌≤◌, List, length, get_or, Some, None, Option, sym, refl, ap, ◌∙◌, subst}
+use Rattle.std.proofs.Common.{◌≡◌, ℕ, List, Some, None, Option, sym, refl, ap, ◌∙◌, subst}
 use mathlib.Core.Path.{fun_ext}
 use Rattle.std.specs.Option.{option_map}
 use Rattle.fringe.specs.declared.place.Place.{Place}
 use Rattle.map.specs.declared.roads.Road.{Road}
-use Rattle.map.specs.Model.{MapModel, RoadFits, Touches, Stands, Lists, WellFormed}
+use Rattle.map.specs.Model.{MapModel, RoadFits, Lists, WellFormed}
 use Rattle.map.specs.Turned.{reversed, turned_round}
-use Rattle.map.proofs.Through.{Was, was}
+use Rattle.map.proofs.Through.{was}
 
 module _ (m : MapModel) where
   fits : (r : ℕ) (x : Road) → RoadFits m r x → RoadFits (turned_round m) r (reversed x)

@@ -1,5 +1,4 @@
 -- A map turned round: each road is driven the other way. A search over it from a goal runs against the roads.
-use Rattle.std.specs.Prelude.{ℕ}
 use Rattle.std.specs.Option.{option_map}
 use Rattle.map.specs.declared.roads.Road.{Road}
 use Rattle.map.specs.Model.{MapModel}

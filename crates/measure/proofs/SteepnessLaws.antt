@@ -1,5 +1,5 @@
 -- Steepness keeps the laws of a measure.
-use Rattle.std.proofs.Common.{ℕ, ◌≤◌, leb, List, [], ◌∷◌, arith, le-leb, leb-true}
+use Rattle.std.proofs.Common.{◌≤◌, leb, List, [], ◌∷◌, arith, le-leb, leb-true}
 use Rattle.measure.specs.Costs.{CostLaws, Figures, total}
 use Rattle.measure.specs.Steeps.{steep, per_mille_of, steeper}
 

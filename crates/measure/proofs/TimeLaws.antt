@@ -1,5 +1,5 @@
 -- Time keeps the laws of a measure.
-use Rattle.std.proofs.Common.{ℕ, ◌*◌, ◌≤◌, leb, List, [], ◌∷◌, length, arith, le-leb, leb-true}
+use Rattle.std.proofs.Common.{◌*◌, ◌≤◌, leb, List, [], ◌∷◌, length, arith, le-leb, leb-true}
 use Rattle.measure.specs.Costs.{CostLaws, Figures, total}
 use Rattle.measure.specs.Times.{time, seconds_of, add_time}
 

@@ -10,7 +10,7 @@ use Rattle.measure.specs.Costs.{CostLaws}
 use Rattle.routes.specs.declared.labels.Origin.TheVariants as source
 use Rattle.routes.specs.declared.labels.Label.{Label as Mark}
 use Rattle.routes.specs.declared.labels.Label.TheVariants as mark
-use Rattle.routes.specs.States.{Start, Label, Blank, Reached, Settled}
+use Rattle.routes.specs.States.{Start, Label, Blank, Reached}
 use Rattle.routes.specs.Costs.{Costs}
 use Rattle.routes.specs.Scales.{Scale}
 use Rattle.routes.specs.Kept.{weight, tally}

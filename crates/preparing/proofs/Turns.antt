@@ -1,10 +1,8 @@
 -- Turns of a spread, one by one.
-use Rattle.std.proofs.Common.{◌≡◌, ℕ, ◌+◌, ◌<◌, Bool, List, length, Option, sym, ◌∙◌, subst, subst₂, arith}
+use Rattle.std.proofs.Common.{◌≡◌, ℕ, ◌+◌, ◌<◌, Bool, List, length, Option, sym, subst, subst₂, arith}
 use Rattle.fringe.specs.declared.place.Place.{Place}
-use Rattle.fringe.specs.Fringes.{Meaning}
 use Rattle.map.specs.Model.{MapModel}
 use Rattle.routes.specs.declared.labels.Label.{Label}
-use Rattle.halves.specs.Agreement.{Steady}
 use Rattle.halves.specs.Settling.{Settles, Idle}
 use Rattle.halves.specs.Expansions.{leaving, driven_along}
 use Rattle.preparing.specs.Firsts.{noted}

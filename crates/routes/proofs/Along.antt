@@ -1,5 +1,5 @@
 -- Relaxing and summing along the rows of open roads comes to what the search does with what it is given.
-use Rattle.std.proofs.Common.{◌≡◌, ℕ, ◌<◌, Bool, List, length, sym, ap, ◌∙◌, subst, arith}
+use Rattle.std.proofs.Common.{◌≡◌, ℕ, ◌<◌, Bool, List, length, sym, ap, ◌∙◌, subst}
 use mathlib.Core.Option.{none}
 use Rattle.fringe.specs.Orders.{TotalOrder}
 use Rattle.map.specs.Model.{MapModel, WellFormed}

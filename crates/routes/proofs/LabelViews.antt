@@ -1,10 +1,10 @@
 -- Lists of labels of code as lists of labels of the search.
-use Rattle.std.proofs.Common.{◌≡◌, ℕ, zero, suc, ◌<◌, List, [], ◌∷◌, length, get_or, set, replicate, Some, refl, ap, arith}
+use Rattle.std.proofs.Common.{◌≡◌, ℕ, zero, suc, List, [], ◌∷◌, length, get_or, set, replicate, Some, refl, ap}
 use Rattle.map.specs.declared.roads.Road.{Road}
 use Rattle.map.specs.Model.{MapModel}
 use Rattle.routes.specs.declared.labels.Label.{Label as Mark}
 use Rattle.routes.specs.declared.labels.Label.TheVariants as mark
-use Rattle.routes.specs.States.{Label, Blank}
+use Rattle.routes.specs.States.{Blank}
 use Rattle.routes.specs.Labels.{end_in, start_at, end_at, label_view, labels_view}
 
 pub start_at_is : (m : MapModel) (r : ℕ) (x : Road) → m.road r ≡ Some x → start_at m r ≡ x.start.0

@@ -1,5 +1,5 @@
 -- Layers over layers.
-use Rattle.std.proofs.Common.{ℕ, refl, ◌∙◌, arith}
+use Rattle.std.proofs.Common.{refl, ◌∙◌, arith}
 use Rattle.map.specs.Model.{MapModel}
 use Rattle.routes.specs.Layers.{Layered}
 

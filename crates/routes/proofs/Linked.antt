@@ -1,15 +1,13 @@
 -- The search on what a question is asked about answers as promised.
-use Rattle.std.proofs.Common.{◌≡◌, ℕ, ◌<◌, Bool, true, false, cond, ◌&&◌, ◌⊎◌, List, [], ◌∷◌, Some, None, Option, sym, refl, ap, ◌∙◌, subst, subst₂, inl, inr, ⊎_elim, arith}
+use Rattle.std.proofs.Common.{◌≡◌, ℕ, ◌<◌, Bool, true, false, ◌&&◌, ◌⊎◌, List, [], ◌∷◌, Some, None, sym, refl, ap, ◌∙◌, subst, subst₂, inl, inr}
 use mathlib.Core.Option.{Option as Maybe, some, none}
 use Rattle.std.proofs.lemmas.Bool.{and_parts}
 use Rattle.fringe.specs.Orders.{TotalOrder}
-use Rattle.map.specs.declared.roads.Road.{Road}
 use Rattle.map.specs.Model.{MapModel, WellFormed}
-use Rattle.measure.specs.Costs.{Figures, AtMost, CostLaws}
+use Rattle.measure.specs.Costs.{AtMost, CostLaws}
 use Rattle.routes.specs.Promise.{OpenRoad, LeastRoute, LeastCost}
 use Rattle.routes.specs.Promise as promise
-use Rattle.routes.specs.Layers.{Layered}
-use Rattle.routes.specs.Prepared.{SumOfRoads, Crosses, RowHolds}
+use Rattle.routes.specs.Prepared.{SumOfRoads, Crosses}
 use Rattle.routes.specs.Asking.{Table, given, is_border, Consistent, Promised}
 use Rattle.routes.specs.Costs.{Costs, Priced}
 use Rattle.routes.specs.Walks.{Roads, Walk, Way}

@@ -1,7 +1,7 @@
 -- The lower bound: what a walk on from a place costs at least, by the table and the other side's gate.
 use Rattle.std.proofs.Common.{◌≡◌, ℕ, ◌<◌, ◌⊎◌, refl, ◌∙◌, subst, inl, inr, ⊎_elim, arith}
 use native.Mathlib.Decide.{ℕ_discrete}
-use mathlib.Core.Option.{some, none}
+use mathlib.Core.Option.{some}
 use Rattle.routes.specs.Costs.{Costs, Priced}
 use Rattle.routes.specs.Walks.{Back, Walk, stay, go}
 use Rattle.routes.specs.Worlds.{World, Lawful, Own}

@@ -1,12 +1,12 @@
 -- The rows of open roads out of a place and into it hold the open roads of the map, and no others.
-use Rattle.std.proofs.Common.{◌≡◌, ℕ, zero, suc, ◌<◌, Bool, true, false, cond, not, ◌||◌, eqb, ltb, ◌⊎◌, List, [], ◌∷◌, length, get_or, Some, None, Option, sym, refl, ap, ◌∙◌, subst, inl, inr, ⊎_elim, arith}
+use Rattle.std.proofs.Common.{◌≡◌, ℕ, zero, suc, ◌<◌, Bool, true, false, cond, ltb, List, [], ◌∷◌, length, get_or, Some, None, Option, sym, refl, ap, ◌∙◌, subst, inl, inr, ⊎_elim, arith}
 use mathlib.Core.Option.{Option as Maybe, some, none}
-use Rattle.std.proofs.lemmas.Bool.{cases_Bool, both_ways, or_left, or_right, lt-ltb, ltb-true, ne_eqb, not_from_false}
+use Rattle.std.proofs.lemmas.Bool.{or_left, or_right, lt-ltb, ltb-true, ne_eqb, not_from_false}
 use Rattle.map.specs.declared.roads.Road.{Road}
 use Rattle.map.specs.declared.roads.Mark.{Mark}
 use Rattle.map.specs.declared.roads.Mark.TheVariants.{Open, Closed}
 use Rattle.fringe.specs.declared.place.Place.{Place}
-use Rattle.map.specs.Model.{MapModel, Touches, Lists, WellFormed}
+use Rattle.map.specs.Model.{MapModel, Touches, WellFormed}
 use Rattle.routes.specs.Promise.{Among, NoneTwice, OpenRoad}
 use Rattle.routes.specs.Rows.{Row, look, ends}
 use Rattle.routes.specs.Asking.{is_open, in_front, row_of, open_roads, roads_into, leaves, some_leaves, is_border}

@@ -1,5 +1,5 @@
 -- Preparing a row turn by turn, over lists of labels and the rows of open roads of the base map.
-use Rattle.std.proofs.Common.{◌≡◌, ℕ, suc, ◌<◌, ◌≤◌, Bool, List, length, set, sym, refl, ◌∙◌, subst, arith, length-set}
+use Rattle.std.proofs.Common.{◌≡◌, ℕ, suc, ◌<◌, Bool, List, length, set, sym, refl, ◌∙◌, subst, arith, length-set}
 use mathlib.Core.Option.{Option as Maybe, some, none}
 use Rattle.fringe.specs.Orders.{TotalOrder}
 use Rattle.map.specs.Model.{MapModel, WellFormed, Inhabits}

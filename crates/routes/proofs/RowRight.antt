@@ -8,10 +8,10 @@ use Rattle.map.specs.Model.{MapModel, WellFormed, Inhabits}
 use Rattle.measure.specs.Costs.{AtMost, CostLaws}
 use Rattle.routes.specs.Promise.{OpenRoad}
 use Rattle.routes.specs.Promise as promise
-use Rattle.routes.specs.Prepared.{LowestOf, SumOfRoads, Crosses, Joined, RowHolds}
+use Rattle.routes.specs.Prepared.{SumOfRoads, Crosses, Joined, RowHolds}
 use Rattle.routes.specs.Costs.{Costs, Priced, Same}
 use Rattle.routes.specs.Walks.{Roads, Walk, Way}
-use Rattle.routes.specs.States.{Label, Blank, Reached, Settled, IsSettled}
+use Rattle.routes.specs.States.{Label, IsSettled}
 use Rattle.routes.specs.Spreads.{Spread, Ground, Grows, Ended, Closest, Spanned}
 use Rattle.routes.specs.Filling.{FilledBy, Filled}
 use Rattle.routes.specs.Measured

@@ -1,5 +1,5 @@
 -- A run turn by turn, as a loop goes through it.
-use Rattle.std.proofs.Common.{◌≡◌, ℕ, zero, suc, ◌+◌, ◌≤◌, Bool, true, false, sym, refl, ap, ◌∙◌, subst, arith}
+use Rattle.std.proofs.Common.{◌≡◌, ℕ, zero, suc, ◌+◌, ◌≤◌, Bool, true, false, sym, refl, ap, subst, arith}
 use mathlib.Core.Option.{Option as Maybe, some, none}
 use Rattle.routes.specs.Search.{Ops, Given, Half, Both, Found, flip, turn_pair, other}
 use Rattle.routes.specs.Search

@@ -1,5 +1,5 @@
 -- Settling the nearest place of a list of labels and relaxing its roads is a turn of a spread.
-use Rattle.std.proofs.Common.{◌≡◌, ℕ, zero, suc, ◌<◌, ◌≤◌, Bool, true, false, ◌⊎◌, List, length, set, sym, refl, ap, ◌∙◌, subst, inl, inr, ⊎_elim, true≢false, zero-add, arith, length-set}
+use Rattle.std.proofs.Common.{◌≡◌, ℕ, zero, suc, ◌<◌, ◌≤◌, Bool, true, false, ◌⊎◌, List, length, set, sym, refl, ap, ◌∙◌, subst, inl, ⊎_elim, true≢false, zero-add, arith, length-set}
 use mathlib.Core.Option.{Option as Maybe, some, none}
 use Rattle.std.proofs.lemmas.Bool.{cases_lt}
 use Rattle.std.proofs.lemmas.List.{get_or-set_same, get_or-set_other, get_or_past}
@@ -9,7 +9,7 @@ use Rattle.routes.specs.States.{Origin, Start, From, Label, Blank, Reached, Sett
 use Rattle.routes.specs.Routes.{Holds, Rooted}
 use Rattle.routes.specs.Turns.{Settles, Leaves, Relaxes, Expands}
 use Rattle.routes.specs.Kept.{tally, One}
-use Rattle.routes.specs.Spreads.{Stems, here, on, Spread, Firsts, Spreads, Ended}
+use Rattle.routes.specs.Spreads.{Stems, here, on, Firsts, Spreads, Ended}
 use Rattle.routes.specs.Scales.{Scale, ops}
 use Rattle.routes.specs.Search.{Found, label_at}
 use Rattle.routes.specs.Search

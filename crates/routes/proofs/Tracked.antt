@@ -1,5 +1,5 @@
 -- A fringe that tracks the labels of a side answers its nearest place, and goes on tracking them.
-use Rattle.std.proofs.Common.{◌≡◌, ℕ, ◌<◌, ◌≤◌, Bool, true, false, cond, ◌⊎◌, List, length, set, replicate, Some, None, Option, Result, sym, refl, ap, ◌∙◌, subst, inl, inr, ⊎_elim, zero-add, arith}
+use Rattle.std.proofs.Common.{◌≡◌, ℕ, ◌<◌, Bool, true, false, cond, List, length, set, replicate, Some, None, Option, Result, sym, refl, ap, ◌∙◌, subst, ⊎_elim, zero-add, arith}
 use native.Mathlib.Decide.{ℕ_discrete}
 use mathlib.Core.Option.{Option as Maybe, some, none}
 use Rattle.std.specs.Option.{option_map}
@@ -10,7 +10,7 @@ use Rattle.fringe.specs.Fringes.{Meaning, Empty, Alike, Put, First, Gone, lowere
 use Rattle.fringe.specs.declared.fringes.Refusal.{Refusal}
 use Rattle.measure.specs.Costs.{CostLaws}
 use Rattle.routes.specs.Costs.{Costs}
-use Rattle.routes.specs.States.{Origin, Start, From, Label, Blank, Reached, Settled, IsReached}
+use Rattle.routes.specs.States.{Origin, From, Label, Blank, Reached, Settled, IsReached}
 use Rattle.routes.specs.Scales.{Scale}
 use Rattle.routes.specs.Search.{Ops, Found, label_at, unsettled}
 use Rattle.routes.specs.Search

@@ -1,7 +1,7 @@
 -- What a question is asked about: the map as it reads now, the base map below the layers, and the rows of the district
 -- table as they are stored.
 use Rattle.std.specs.Prelude.{◌≡◌, ℕ, ◌<◌, Bool, true, false, cond, not, ◌&&◌, ◌||◌, List, [], ◌∷◌, Some, None, Option, ◌==◌, nat_lt}
-use Rattle.std.proofs.Math.Option.{Option as Maybe, some, none}
+use Rattle.std.proofs.Math.Option.{Option as Maybe, none}
 use Rattle.fringe.specs.declared.place.Place.{Place}
 use Rattle.map.specs.declared.roads.Road.{Road}
 use Rattle.map.specs.declared.roads.Mark.{Mark}

@@ -1,5 +1,5 @@
 -- The chain of origins of a label, and the route that two chains make.
-use Rattle.std.specs.Prelude.{◌≡◌, ℕ, ◌<◌, ◌⊎◌, List, [], ◌∷◌, ◌++◌}
+use Rattle.std.specs.Prelude.{◌≡◌, ℕ, ◌<◌, List, [], ◌∷◌, ◌++◌}
 use Rattle.routes.specs.Promise.{Among, NoneTwice}
 use Rattle.routes.specs.Costs.{Costs, Same}
 use Rattle.routes.specs.Walks.{Roads}

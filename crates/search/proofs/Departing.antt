@@ -1,5 +1,5 @@
 -- The state before the first turn.
-use Rattle.std.proofs.Common.{◌≡◌, ℕ, Bool, true, false, cond, eqb, List, length, set, replicate, sym, refl, ap, ◌∙◌, ap₂}
+use Rattle.std.proofs.Common.{◌≡◌, ℕ, Bool, true, false, cond, eqb, List, set, replicate, sym, refl, ap, ◌∙◌, ap₂}
 use Rattle.fringe.specs.declared.place.Place.{Place}
 use Rattle.routes.specs.declared.labels.Label.{Label}
 use Rattle.routes.specs.declared.labels.Label.TheVariants.{Blank, Reached}
@@ -9,7 +9,7 @@ use Rattle.routes.specs.Labels.{labels_view}
 use Rattle.routes.specs.Search.{Ops, first}
 use Rattle.routes.proofs.LabelViews.{view_set, view_blank}
 use Rattle.turns.specs.Findings.{Shown}
-use Rattle.search.specs.Outset.{outset, first_cost}
+use Rattle.search.specs.Outset.{outset}
 
 module _ {K : Type 0} (O : Ops K) (n : ℕ) (f g : ℕ → ℕ) (start goal : Place) where
   open O use {free, blocked}

@@ -1,20 +1,18 @@
 -- What a search is given is that of the map, and the guides of both sides read it.
-use Rattle.std.proofs.Common.{◌≡◌, ℕ, ◌<◌, ◌≤◌, Bool, true, false, cond, ◌&&◌, eqb, ltb, List, [], ◌∷◌, get_or, Some, None, Option, sym, refl, ap, ◌∙◌, ap₂, arith}
-use mathlib.Core.Option.{Option as Maybe, some, none}
+use Rattle.std.proofs.Common.{◌≡◌, ℕ, ◌<◌, Bool, true, false, cond, ◌&&◌, ltb, List, [], ◌∷◌, get_or, Some, None, Option, sym, refl, ap, ◌∙◌, ap₂, arith}
+use mathlib.Core.Option.{Option as Maybe, none}
 use Rattle.std.proofs.lemmas.Bool.{lt-ltb, cond-true}
 use Rattle.std.specs.Option.{option_map}
 use Rattle.map.specs.declared.roads.Road.{Road}
-use Rattle.map.specs.declared.roads.Mark.{Mark}
-use Rattle.map.specs.declared.roads.Mark.TheVariants.{Open, Closed}
 use Rattle.map.specs.Model.{MapModel, WellFormed}
 use Rattle.map.specs.Turned.{reversed, turned_round}
 use Rattle.table.specs.declared.entry.Entry.{Entry}
 use Rattle.table.specs.declared.tables.Table.{Table}
-use Rattle.table.specs.Entries.{is_prepared, in_column, entry_at, no_entry}
-use Rattle.table.specs.Views.{ends_of, pair_in, cost_in, stored}
-use Rattle.routes.specs.Search.{Given, flip, turn_pair, own}
+use Rattle.table.specs.Entries.{is_prepared, entry_at, no_entry}
+use Rattle.table.specs.Views.{pair_in, cost_in, stored}
+use Rattle.routes.specs.Search.{Given, flip}
 use Rattle.routes.specs.Rows.{Row, look}
-use Rattle.routes.specs.Asking.{given, is_open, in_front, row_of, open_roads, roads_into}
+use Rattle.routes.specs.Asking.{given, in_front, row_of, open_roads, roads_into}
 use Rattle.routes.proofs.MapRoads as map_roads
 use Rattle.turns.specs.Fits.{Fits}
 use Rattle.search.specs.declared.guides.Guide.{Guide}

@@ -1,5 +1,5 @@
 -- One turn of a side is one step of the search.
-use Rattle.std.proofs.Common.{◌≡◌, ℕ, ◌<◌, Bool, true, false, List, length, set, sym, refl, ap, ◌∙◌, subst, ap₂, arith, length-set}
+use Rattle.std.proofs.Common.{◌≡◌, ℕ, ◌<◌, Bool, true, false, List, length, set, sym, refl, ap, ◌∙◌, ap₂, arith, length-set}
 use mathlib.Core.Option.{Option as Maybe, some, none}
 use borrow.Author.Tests.{both_ways}
 use Rattle.fringe.specs.Orders.{TotalOrder}

@@ -1,6 +1,5 @@
 -- What two fringes hold at least says whether the search is over.
-use Rattle.std.proofs.Common.{◌≡◌, ℕ, Bool, true, List, Some, None, Option, sym, refl, ap, ◌∙◌, ap₂}
-use mathlib.Core.Option.{some, none}
+use Rattle.std.proofs.Common.{◌≡◌, ℕ, Bool, List, Some, None, Option, sym, refl, ap, ◌∙◌, ap₂}
 use Rattle.std.specs.Option.{option_map}
 use Rattle.fringe.specs.declared.place.Place.{Place}
 use Rattle.fringe.specs.Orders.{TotalOrder}
@@ -9,7 +8,7 @@ use Rattle.measure.specs.Costs.{CostLaws}
 use Rattle.routes.specs.declared.labels.Label.{Label}
 use Rattle.routes.specs.declared.labels.Label.TheVariants.{Blank, Reached, Settled}
 use Rattle.routes.specs.Labels.{label_view, labels_view}
-use Rattle.routes.specs.Search.{Ops, ops_of, label_at, nearest}
+use Rattle.routes.specs.Search.{Ops, ops_of, nearest}
 use Rattle.routes.specs.Measured.{both_at_most, one_thing}
 use Rattle.routes.specs.Tracking.{reached_cost, Tracks}
 use Rattle.routes.proofs.LabelViews.{view_at}

@@ -1,10 +1,8 @@
 -- What is left of a search, turn by turn.
-use Rattle.std.proofs.Common.{◌≡◌, ℕ, zero, suc, ◌+◌, ◌-◌, ◌<◌, ◌≤◌, Bool, List, length, sym, refl, ap, ◌∙◌, subst, arith}
-use Rattle.fringe.specs.Orders.{TotalOrder}
+use Rattle.std.proofs.Common.{◌≡◌, ℕ, suc, ◌+◌, ◌-◌, ◌<◌, ◌≤◌, Bool, List, length, sym, refl, ap, ◌∙◌, subst, arith}
 use Rattle.fringe.specs.Fringes.{Meaning}
 use Rattle.map.specs.Model.{MapModel}
 use Rattle.map.specs.Turned.{turned_round}
-use Rattle.measure.specs.Costs.{CostLaws}
 use Rattle.routes.specs.declared.labels.Label.{Label}
 use Rattle.routes.specs.Labels.{start_at, labels_view}
 use Rattle.routes.specs.Search.{Ops, ops_of, Given, Both, flip, other}
@@ -12,7 +10,7 @@ use Rattle.routes.specs.Search as search_spec
 use Rattle.routes.proofs.RunParts.{flip_flip, run_stop, run_step, step_turns}
 use Rattle.halves.specs.Agreement.{Agree}
 use Rattle.turns.specs.declared.findings.Findings.{Findings}
-use Rattle.turns.specs.Findings.{Shown, FewTurns}
+use Rattle.turns.specs.Findings.{Shown}
 use Rattle.turns.specs.Fits.{Fits}
 use Rattle.search.specs.Turns.{Turning, Over, Moved}
 use Rattle.search.specs.Rounds.{swapped, Left}

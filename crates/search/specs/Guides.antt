@@ -1,6 +1,6 @@
 -- What a side reads in the district table.
 use Rattle.std.specs.Prelude.{◌≡◌, ℕ, ◌<◌, Bool, cond, ◌&&◌, Some, None, Option, ◌==◌}
-use Rattle.std.proofs.Math.Option.{Option as Maybe, some, none}
+use Rattle.std.proofs.Math.Option.{Option as Maybe, none}
 use Rattle.table.specs.declared.entry.Entry.{Entry}
 use Rattle.table.specs.declared.tables.Table.{Table}
 use Rattle.table.specs.Entries.{entry_at}

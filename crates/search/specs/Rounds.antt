@@ -1,5 +1,5 @@
 -- How the sides take turns, and what the search leaves.
-use Rattle.std.specs.Prelude.{◌≡◌, ℕ, ◌+◌, ◌≤◌, Bool, List, length}
+use Rattle.std.specs.Prelude.{◌≡◌, ℕ, ◌+◌, Bool, List, length}
 use Rattle.fringe.specs.Fringes.{Meaning}
 use Rattle.map.specs.Model.{MapModel}
 use Rattle.map.specs.Turned.{turned_round}

@@ -4,7 +4,6 @@ use Rattle.std.proofs.Math.Option.{Option as Maybe, some, none}
 use Rattle.fringe.specs.declared.place.Place.{Place}
 use Rattle.fringe.specs.Fringes.{Meaning}
 use Rattle.map.specs.Model.{MapModel}
-use Rattle.table.specs.declared.tables.Table.{Table}
 use Rattle.routes.specs.declared.labels.Label.{Label}
 use Rattle.routes.specs.Labels.{start_at}
 use Rattle.routes.specs.Search.{Ops, Given, Both, Found, next, step}
@@ -12,8 +11,6 @@ use Rattle.halves.specs.Agreement.{Agree}
 use Rattle.turns.specs.declared.findings.Findings.{Findings}
 use Rattle.turns.specs.Findings.{Shown, FewTurns}
 use Rattle.turns.specs.Fits.{Fits}
-use Rattle.search.specs.declared.guides.Way.{Way}
-use Rattle.search.specs.Guides.{Guides}
 
 -- Whether the search is over: a side has nothing reached, or the sum of both least costs is not below best.
 abbrev pub is_over : {K : Type 0} → Ops K → Maybe (Found K) → Maybe (Found K) → K → Bool

@@ -1,5 +1,5 @@
 -- One more number is counted, or not.
-use Rattle.std.proofs.Common.{◌≡◌, ℕ, suc, ◌+◌, ◌≤◌, Bool, true, false, cond, sym, refl, ap, ◌∙◌, arith}
+use Rattle.std.proofs.Common.{◌≡◌, ℕ, suc, ◌+◌, ◌≤◌, Bool, true, false, ap, arith}
 use Rattle.survey.specs.Counts.{count}
 
 -- what a loop that counts keeps

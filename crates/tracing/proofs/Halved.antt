@@ -1,5 +1,5 @@
 -- Two halves of a route in one list.
-use Rattle.std.proofs.Common.{◌≡◌, ℕ, zero, suc, ◌+◌, ◌-◌, ◌<◌, ◌≤◌, List, [], ◌∷◌, ◌++◌, reverse, length, take, drop, sym, refl, ap, ◌∙◌, subst, ap₂, append_assoc, append-nil, arith, length-append, length-drop, length-take}
+use Rattle.std.proofs.Common.{◌≡◌, ℕ, suc, ◌+◌, ◌-◌, ◌≤◌, List, [], ◌∷◌, ◌++◌, reverse, length, take, drop, sym, refl, ap, ◌∙◌, subst, ap₂, append_assoc, append-nil, arith, length-append, length-drop}
 use mathlib.Core.List.{reverse-cons}
 use Rattle.std.proofs.lemmas.List.{length-reverse, drop-drop, take-append-le, length-take-le, take_all, drop_all}
 use Rattle.std.proofs.lemmas.Slice.{drop-append-drop}
@@ -8,7 +8,7 @@ use Rattle.fringe.specs.declared.place.Place.{Place}
 use Rattle.routes.specs.Routes.{onto}
 use Rattle.routes.proofs.Distinct.{onto_length}
 use Rattle.tracing.specs.Listings.{numbers, Listed}
-use Rattle.tracing.proofs.Numbers.{numbers-++, numbers_length}
+use Rattle.tracing.proofs.Numbers.{numbers-++}
 
 -- the first list turned round, before the second
 onto_is : (l m : List ℕ) → onto l m ≡ onto l [] ++ m

@@ -1,5 +1,5 @@
 -- Lists of places by their numbers.
-use Rattle.std.proofs.Common.{◌≡◌, ℕ, suc, List, [], ◌∷◌, ◌++◌, length, refl, ap}
+use Rattle.std.proofs.Common.{◌≡◌, suc, List, [], ◌∷◌, ◌++◌, length, refl, ap}
 use Rattle.fringe.specs.declared.place.Place.{Place}
 use Rattle.tracing.specs.Listings.{numbers}
 

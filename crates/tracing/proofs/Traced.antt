@@ -1,5 +1,5 @@
 -- A chain of origins written down place by place.
-use Rattle.std.proofs.Common.{◌≡◌, ℕ, zero, suc, ◌+◌, ◌-◌, ◌<◌, ◌≤◌, List, [], ◌∷◌, ◌++◌, length, get_or, take, drop, set, Some, None, Option, sym, refl, ap, ◌∙◌, subst, ap₂, append_assoc, append-nil, arith, length-append, length-set, length-take}
+use Rattle.std.proofs.Common.{◌≡◌, ℕ, suc, ◌+◌, ◌-◌, ◌<◌, ◌≤◌, List, [], ◌∷◌, ◌++◌, length, get_or, take, drop, set, Some, None, Option, sym, refl, ap, ◌∙◌, subst, ap₂, append_assoc, append-nil, arith, length-append, length-set, length-take}
 use Rattle.std.proofs.lemmas.List.{take_more_set, drop-set-lt, drop-drop}
 use Rattle.fringe.specs.declared.place.Place.{Place}
 use Rattle.map.specs.declared.numbers.RoadId.{RoadId}
@@ -9,7 +9,7 @@ use Rattle.routes.specs.declared.labels.Label.{Label}
 use Rattle.routes.specs.declared.labels.Label.TheVariants.{Blank, Reached, Settled}
 use Rattle.routes.specs.States as states
 use Rattle.routes.specs.Labels.{label_view, labels_view}
-use Rattle.routes.specs.Search.{trail, label_at}
+use Rattle.routes.specs.Search.{trail}
 use Rattle.routes.proofs.LabelViews.{view_at}
 use Rattle.tracing.specs.Listings.{numbers, origin_in, Listed, Short}
 use Rattle.tracing.proofs.Numbers.{numbers-++, numbers_length}

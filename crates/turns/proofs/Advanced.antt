@@ -1,13 +1,13 @@
 -- What a turn finds, once its place is settled, is what the step of the search finds.
-use Rattle.std.proofs.Common.{◌≡◌, ℕ, suc, ◌+◌, ◌<◌, Bool, true, false, cond, List, length, get_or, Some, None, Option, sym, refl, ap, ◌∙◌, subst, ap₂, arith}
-use mathlib.Core.Option.{Option as Maybe, some, none}
+use Rattle.std.proofs.Common.{◌≡◌, ℕ, suc, ◌+◌, ◌<◌, Bool, true, false, cond, List, get_or, Some, None, Option, sym, refl, ap, ◌∙◌, subst, ap₂, arith}
+use mathlib.Core.Option.{none}
 use Rattle.fringe.specs.declared.place.Place.{Place}
 use Rattle.fringe.specs.Orders.{TotalOrder}
 use Rattle.map.specs.Model.{MapModel, WellFormed}
 use Rattle.measure.specs.Costs.{CostLaws}
 use Rattle.routes.specs.declared.labels.Label.{Label}
 use Rattle.routes.specs.declared.labels.Label.TheVariants.{Blank}
-use Rattle.routes.specs.States.{Origin, Settled}
+use Rattle.routes.specs.States.{Origin}
 use Rattle.routes.specs.Labels.{start_at, label_view, labels_view}
 use Rattle.routes.specs.Search.{Ops, ops_of, Given, Half, Both, Found, label_at}
 use Rattle.routes.specs.Search as search_spec
@@ -22,8 +22,7 @@ use Rattle.halves.proofs.MeetingIs.{meeting_is}
 use Rattle.turns.specs.declared.findings.Findings.{Findings}
 use Rattle.turns.specs.declared.findings.Between.{Between}
 use Rattle.turns.specs.Options.{maybe}
-use Rattle.turns.specs.Findings.{Beside, Shown, FewTurns}
-use Rattle.turns.specs.Fits.{Fits}
+use Rattle.turns.specs.Findings.{Shown}
 use Rattle.turns.specs.Advances.{SettledAt}
 use Rattle.turns.specs.Turnings.{one_more, pruned_by, opened_by, expanded_by, lesser_of}
 use Rattle.table.specs.Views.{ends_of}

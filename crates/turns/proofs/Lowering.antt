@@ -1,6 +1,5 @@
 -- The upper bound through a stored pair.
-use Rattle.std.proofs.Common.{◌≡◌, ℕ, Bool, true, false, eqb, List, get_or, Some, None, Option, sym, refl, ap, ◌∙◌}
-use mathlib.Core.Option.{some}
+use Rattle.std.proofs.Common.{◌≡◌, ℕ, Bool, true, false, eqb, List, get_or, Some, None, Option, ap, ◌∙◌}
 use Rattle.fringe.specs.declared.place.Place.{Place}
 use Rattle.routes.specs.declared.labels.Label.{Label}
 use Rattle.routes.specs.declared.labels.Label.TheVariants.{Blank}

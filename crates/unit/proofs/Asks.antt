@@ -12,7 +12,6 @@ use Rattle.routes.specs.declared.labels.Label.TheVariants.{Blank}
 use Rattle.routes.specs.Promise.{LeastCost}
 use Rattle.routes.specs.Search.{Answer as SearchAnswer}
 use Rattle.routes.proofs.Linked as linked
-use Rattle.table.specs.declared.tables.Table.{Table}
 use Rattle.table.specs.Views.{stored}
 use Rattle.search.specs.Asked.{Asked}
 use Rattle.asking.specs.declared.answers.Answer.{Answer}
@@ -25,7 +24,6 @@ use Rattle.histories.specs.Histories.{map_after, LeftBy}
 use Rattle.histories.proofs.Reading.{map_is, consistent}
 use Rattle.unit.specs.declared.units.Unit.{Unit as MapUnit}
 use Rattle.unit.specs.Refusing.{question_refusal, verdict}
-use Rattle.unit.specs.Preparing.{wiped}
 use Rattle.unit.specs.Questions.{map_now, no_entry_now, Lent, Questioning, by_the_rules, LeastOn}
 use Rattle.unit.proofs.Prepares.{refused_with, cut_length, put_blank}
 

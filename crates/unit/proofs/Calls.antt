@@ -1,5 +1,5 @@
 -- What the calls on the layers make of the unit.
-use Rattle.std.proofs.Common.{◌≡◌, ℕ, Bool, Ok, Err, Result, refl, ap, ◌∙◌}
+use Rattle.std.proofs.Common.{ℕ, Bool, Ok, Err, Result, refl, ap, ◌∙◌}
 use Rattle.map.specs.declared.numbers.RoadId.{RoadId}
 use Rattle.map.specs.Model.{MapModel}
 use Rattle.entries.specs.declared.refusals.Refusal.{Refusal as LayerRefusal}

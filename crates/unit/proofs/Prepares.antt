@@ -1,21 +1,19 @@
 -- What a prepare makes of the unit.
-use Rattle.std.proofs.Common.{◌≡◌, ℕ, ◌-◌, ◌<◌, ◌≤◌, Bool, true, false, cond, ◌&&◌, eqb, ltb, leb, List, ◌∷◌, ◌++◌, length, take, drop, replicate, is_some, Some, None, Ok, Err, Option, Result, sym, refl, ap, ◌∙◌, subst, ap₂, arith, eq-eqb, ne_eqb}
+use Rattle.std.proofs.Common.{◌≡◌, ℕ, ◌-◌, ◌<◌, ◌≤◌, Bool, true, false, cond, ◌&&◌, ltb, leb, List, ◌∷◌, ◌++◌, length, take, drop, replicate, is_some, Some, None, Ok, Err, Option, Result, sym, refl, ap, ◌∙◌, subst, ap₂, arith, eq-eqb, ne_eqb}
 use borrow.Rule.Slice.PartMut.{mid_of, post_of}
-use Rattle.std.proofs.lemmas.Bool.{cases_Bool, cases_lt, ltb-true, leb-true, lt-ltb, cond-true, cond-false}
+use Rattle.std.proofs.lemmas.Bool.{ltb-true, leb-true, lt-ltb}
 use Rattle.std.proofs.lemmas.List.{length-take-le}
-use Rattle.std.proofs.lemmas.Bool.Decides.{nat_tests}
 use Rattle.fringe.specs.Fringes.{Meaning, Emptied}
 use Rattle.map.specs.declared.numbers.District.{District}
 use Rattle.map.specs.Model.{MapModel, WellFormed}
 use Rattle.routes.specs.declared.labels.Label.{Label}
 use Rattle.routes.specs.declared.labels.Label.TheVariants.{Blank}
 use Rattle.routes.specs.Prepared.{RowHolds}
-use Rattle.table.specs.declared.entry.Entry.{Entry}
 use Rattle.table.specs.declared.tables.Table.{Table}
 use Rattle.table.specs.Entries.{in_column, is_prepared, entry_at, Filled}
 use Rattle.table.specs.Views.{cost_in, pair_in, row_costs, row_pairs, stored}
 use Rattle.preparing.specs.declared.Prepared.{Prepared}
-use Rattle.preparing.specs.Rows.{Ready, RowPrepared, linked}
+use Rattle.preparing.specs.Rows.{RowPrepared, linked}
 use Rattle.layers.specs.declared.closures.Closures.{Closures}
 use Rattle.layers.specs.declared.slowdowns.Slowdowns.{Slowdowns}
 use Rattle.histories.specs.declared.calls.Call.{Call}
@@ -26,7 +24,7 @@ use Rattle.histories.specs.Histories.{further, LeftBy}
 use Rattle.histories.proofs.Rows.{prepared_is, left_prepare}
 use Rattle.unit.specs.declared.units.Unit.{Unit as MapUnit}
 use Rattle.unit.specs.Refusing.{prepare_refusal, verdict}
-use Rattle.unit.specs.Preparing.{wiped, Preparing, RowFilled}
+use Rattle.unit.specs.Preparing.{wiped, Preparing}
 
 -- what a verdict says
 pub refused_with : (o : Option Refusal) (e : Refusal) → Err e ≡ verdict o → o ≡ Some e

@@ -1,4 +1,4 @@
-use Rattle.std.proofs.Common.{length, replicate, sym, ap, ◌∙◌}
+use Rattle.std.proofs.Common.{replicate, sym, ap, ◌∙◌}
 use Rattle.routes.specs.declared.labels.Label.TheVariants.{Blank}
 use Rattle.routes.specs.Asking.{given}
 use Rattle.routes.specs.Search.{ops_of, search_best}

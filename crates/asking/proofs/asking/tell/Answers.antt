@@ -1,4 +1,4 @@
-use Rattle.std.proofs.Common.{◌≡◌, true, false, not, sym, refl, ap, ◌∙◌}
+use Rattle.std.proofs.Common.{◌≡◌, false, sym, refl, ap, ◌∙◌}
 use borrow.Author.Tests.{not-true}
 use Rattle.routes.specs.Search.{ops_of}
 use Rattle.asking.proofs.Telling.{told_met, tells_route}

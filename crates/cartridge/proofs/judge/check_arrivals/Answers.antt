@@ -1,4 +1,4 @@
-use Rattle.std.proofs.Common.{◌≡◌, ℕ, ◌+◌, ◌<◌, ◌≤◌, Bool, true, false, not, ◌&&◌, ltb, List, Some, Option, sym, ap, ◌∙◌, add-one, arith, below_more}
+use Rattle.std.proofs.Common.{◌≡◌, ℕ, ◌<◌, ◌≤◌, Bool, true, false, not, ltb, List, Some, Option, ap, ◌∙◌, add-one, arith, below_more}
 use Rattle.std.proofs.lemmas.Bool.{not_from_false, not_from_true, le-ltb, lt-ltb, and_left}
 use Rattle.map.specs.declared.roads.Road.{Road}
 use Rattle.format.specs.declared.Refusal.TheVariants.{WrongArrival}

@@ -1,4 +1,4 @@
-use Rattle.std.proofs.Common.{◌≡◌, true, not, ltb, arith}
+use Rattle.std.proofs.Common.{not, ltb, arith}
 use Rattle.std.proofs.lemmas.Bool.Decides.{nat_tests}
 use Rattle.format.specs.declared.Refusal.TheVariants.{NoSuchDistrict}
 use Rattle.format.specs.Bytes.{districts, places}

@@ -1,7 +1,7 @@
-use Rattle.std.proofs.Common.{◌≡◌, true, not, ltb, sym, ◌∙◌, arith}
+use Rattle.std.proofs.Common.{not, sym, arith}
 use Rattle.std.proofs.lemmas.Bool.{not_from_false}
 use Rattle.format.specs.declared.Refusal.TheVariants.{EmptyDistrict}
-use Rattle.format.specs.Bytes.{districts, places}
+use Rattle.format.specs.Bytes.{districts}
 use Rattle.format.specs.Reading.{has_place}
 use Rattle.format.proofs.Verdicts.{refused_at, all_pass}
 use Rattle.cartridge.proofs.judge.check_inhabited.Goals as goal

@@ -1,5 +1,5 @@
-use Rattle.std.proofs.Common.{◌≡◌, ℕ, ◌+◌, ◌<◌, ◌≤◌, Bool, true, false, not, ◌&&◌, List, Some, Option, sym, ap, ◌∙◌, add-one, arith, below_more}
-use Rattle.std.proofs.lemmas.Bool.{not_from_false, not_from_true, cases_eq}
+use Rattle.std.proofs.Common.{◌≡◌, ℕ, ◌≤◌, Bool, true, false, not, ◌&&◌, List, Some, Option, ap, add-one, arith, below_more}
+use Rattle.std.proofs.lemmas.Bool.{not_from_false, not_from_true}
 use Rattle.map.specs.declared.roads.Road.{Road}
 use Rattle.format.specs.declared.Refusal.TheVariants.{WrongRoad}
 use Rattle.format.specs.Bytes.{places, roads}

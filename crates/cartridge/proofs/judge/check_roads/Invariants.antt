@@ -1,6 +1,5 @@
-use Rattle.std.proofs.Common.{◌≡◌, ℕ, ◌<◌, ◌≤◌, Bool, true, false, not, eqb, ltb}
-use Rattle.format.specs.Bytes.{districts}
-use Rattle.format.specs.Reading.{district_of, has_place, right_road, right_arrival, previous, road_of, arriving}
+use Rattle.std.proofs.Common.{◌≡◌, ℕ, ◌<◌, ◌≤◌, false, not}
+use Rattle.format.specs.Reading.{right_road, previous, road_of}
 use Rattle.cartridge.proofs.judge.check_roads.Given as goal
 
 abbrev pub invariant-loop-r : goal.invariant-loop-r

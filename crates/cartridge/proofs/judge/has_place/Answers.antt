@@ -1,4 +1,4 @@
-use Rattle.std.proofs.Common.{◌≡◌, true, not, eqb, is_some, sym, ap, ◌∙◌, arith}
+use Rattle.std.proofs.Common.{eqb, is_some, sym, ap, arith}
 use Rattle.std.proofs.lemmas.Bool.Decides.{nat_tests}
 use Rattle.format.specs.Bytes.{places}
 use Rattle.format.specs.Reading.{district_of}

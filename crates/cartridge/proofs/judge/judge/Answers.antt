@@ -1,4 +1,4 @@
-use Rattle.std.proofs.Common.{◌≡◌, ℕ, ◌≤◌, List, length, None, Ok, Result, sym, refl, ◌∙◌}
+use Rattle.std.proofs.Common.{◌≡◌, ℕ, ◌≤◌, List, length, None, Ok, Result, ◌∙◌}
 use Rattle.format.specs.declared.Refusal.{Refusal}
 use Rattle.format.specs.Bytes.{whole}
 use Rattle.format.specs.Reading.{judged, verdict, and_then, fields, contents, counts, known_districts, inhabited_districts, right_roads, right_arrivals}

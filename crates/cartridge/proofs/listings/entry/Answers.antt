@@ -1,4 +1,4 @@
-use Rattle.std.proofs.Common.{◌≡◌, ◌<◌, sym, subst, arith, rules}
+use Rattle.std.proofs.Common.{rules}
 use Rattle.format.proofs.Accepted.{accepted_facts, arrival_known}
 use Rattle.cartridge.proofs.Halving.{arrival_there}
 use Rattle.cartridge.proofs.listings.entry.Goals as goal

@@ -1,8 +1,7 @@
-use Rattle.std.proofs.Common.{◌≡◌, ℕ, true, List, sym, ◌∙◌, inl, inr, arith}
-use Rattle.format.specs.Reading.{accepts}
+use Rattle.std.proofs.Common.{sym, ◌∙◌, inl, inr, arith}
 use Rattle.format.proofs.Accepted.{accepted_facts}
 use Rattle.cartridge.proofs.Halving.{header_there}
-use Rattle.cartridge.proofs.Listed.{Found, lists, lists_no_more, no_place}
+use Rattle.cartridge.proofs.Listed.{lists, lists_no_more, no_place}
 use Rattle.cartridge.proofs.listings.listed.Goals as goal
 
 pub place_count-requires : goal.place_count-requires

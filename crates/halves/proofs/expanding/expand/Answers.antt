@@ -1,4 +1,4 @@
-use Rattle.std.proofs.Common.{Some, None, sym, refl, ◌∙◌, arith, rules}
+use Rattle.std.proofs.Common.{Some, None, sym, refl, ◌∙◌, rules}
 use Rattle.halves.proofs.Departures.{departs, few_leave}
 use Rattle.halves.proofs.Spreads.{going_same, going_all, going_on}
 use Rattle.halves.proofs.expanding.expand.Goals as goal

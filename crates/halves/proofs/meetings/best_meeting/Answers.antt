@@ -1,4 +1,4 @@
-use Rattle.std.proofs.Common.{Some, None, sym, refl, ◌∙◌, arith, rules}
+use Rattle.std.proofs.Common.{Some, None, sym, ◌∙◌, rules}
 use Rattle.halves.proofs.Departures.{departs, few_leave}
 use Rattle.halves.proofs.Bests.{best_all, best_on}
 use Rattle.halves.proofs.meetings.best_meeting.Goals as goal

@@ -1,4 +1,4 @@
-use Rattle.std.proofs.Common.{◌≡◌, length, sym, refl, ap, ◌∙◌, subst, subst₂, length-set}
+use Rattle.std.proofs.Common.{length, sym, refl, ap, ◌∙◌, subst, subst₂, length-set}
 use Rattle.halves.specs.Labels.{spot, finished}
 use Rattle.halves.specs.Agreement.{Agree}
 use Rattle.halves.specs.Settling.{Settling}

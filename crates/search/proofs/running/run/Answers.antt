@@ -1,4 +1,4 @@
-use Rattle.std.proofs.Common.{◌+◌, ◌-◌, ◌<◌, sym, refl, ap, ◌∙◌, arith}
+use Rattle.std.proofs.Common.{◌+◌, ◌<◌, refl, arith}
 use Rattle.map.specs.Turned.{turned_round}
 use Rattle.routes.specs.Labels.{start_at}
 use Rattle.routes.specs.Search.{flip, ops_of, run}

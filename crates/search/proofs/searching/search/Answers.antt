@@ -1,4 +1,4 @@
-use Rattle.std.proofs.Common.{◌<◌, ◌≤◌, sym, refl, ap, ◌∙◌, subst, arith}
+use Rattle.std.proofs.Common.{◌<◌, ◌≤◌, sym, refl, ◌∙◌, subst, arith}
 use Rattle.map.specs.Turned.{turned_round}
 use Rattle.routes.specs.Labels.{start_at}
 use Rattle.routes.specs.Search.{ops_of, first}
@@ -6,7 +6,6 @@ use Rattle.routes.specs.Asking.{given}
 use Rattle.routes.proofs.Unspliced.{given_unspliced}
 use Rattle.table.specs.Views.{stored}
 use Rattle.turns.specs.Findings.{Shown}
-use Rattle.search.specs.Outset.{outset}
 use Rattle.halves.proofs.Steadying.{steady_on}
 use Rattle.search.proofs.Grounded.{fits_along, fits_against, guided_along, guided_against}
 use Rattle.search.proofs.Departing.{first_shown, begun_row}

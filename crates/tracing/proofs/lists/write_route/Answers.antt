@@ -1,10 +1,10 @@
-use Rattle.std.proofs.Common.{◌≡◌, ℕ, suc, ◌+◌, ◌-◌, ◌≤◌, List, ◌∷◌, length, sym, ap, ◌∙◌, subst, ap₂, arith}
+use Rattle.std.proofs.Common.{◌≡◌, ℕ, suc, ◌≤◌, List, ◌∷◌, length, sym, ap, ◌∙◌, subst, ap₂, arith}
 use Rattle.fringe.specs.declared.place.Place.{Place}
 use Rattle.map.specs.Model.{MapModel}
 use Rattle.map.specs.Turned.{turned_round}
 use Rattle.routes.specs.declared.labels.Label.{Label}
 use Rattle.routes.specs.Labels.{start_at, labels_view}
-use Rattle.routes.specs.Search.{Both, trail, route}
+use Rattle.routes.specs.Search.{Both, trail}
 use Rattle.tracing.specs.Listings.{Listed, Short}
 use Rattle.tracing.specs.Meetings.{Met}
 use Rattle.tracing.proofs.Halved.{halves_put, part_length, relisted}

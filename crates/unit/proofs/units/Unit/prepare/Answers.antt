@@ -1,4 +1,4 @@
-use Rattle.std.proofs.Common.{◌-◌, length, Err, sym, ap, ◌∙◌, subst}
+use Rattle.std.proofs.Common.{◌-◌, length, Err, sym, ap, ◌∙◌}
 use borrow.Rule.Slice.PartMut.{mid_of}
 use Rattle.std.proofs.lemmas.Result.{err_from_is_err_and}
 use Rattle.histories.specs.declared.calls.Call.TheVariants.{Prepare}

@@ -1,4 +1,4 @@
-use Rattle.std.proofs.Common.{◌≡◌, sym, ap, ◌∙◌, subst}
+use Rattle.std.proofs.Common.{sym, ap, ◌∙◌, subst}
 use Rattle.winner_tree.specs.Tournaments.{InOrder}
 use Rattle.winner_tree.specs.declared.tree.WinnerTree.{WinnerTree}
 use Rattle.winner_tree.proofs.Changes.{first_fits, taken_out}
