@@ -60,7 +60,8 @@ def files():
     for folder, dirs, found in os.walk(TOP):
         dirs[:] = sorted(d for d in dirs if d not in ("out", ".git", "target", "data"))
         for name in sorted(found):
-            if name.endswith((".antt", ".rt", ".edit", ".md")):
+            # that page says what the old names were
+            if name.endswith((".antt", ".rt", ".edit", ".md")) and name != "PORT.md":
                 yield os.path.join(folder, name)
 
 

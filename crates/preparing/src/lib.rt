@@ -6,7 +6,7 @@ ghost use Rattle.fringe.specs.Fringes.{Emptied};
 ghost use Rattle.routes.specs.declared.labels.Label.TheVariants.{Blank};
 ghost use Rattle.preparing.specs.Rows.{Ready, RowPrepared};
 
-mod beginning;
+pub mod beginning;
 mod filling;
 mod rooting;
 mod spreading;

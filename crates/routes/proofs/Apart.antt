@@ -15,7 +15,7 @@ use Rattle.routes.proofs.Settle
 use Rattle.routes.proofs.Expand
 
 module _ (C : Costs) where
-  open C use {Cost, ◌≼◌, ◌⊕◌, ≼_trans, ⊕-comm, ⊕-mono}
+  open C use {Cost, ◌≼◌, ◌⊕◌, ≼_trans, ⊕_comm, ⊕_mono}
 
   infix 40 ◌≼◌
   infixl 65 ◌⊕◌
@@ -47,9 +47,9 @@ module _ (C : Costs) where
     rank_b = k.rank_f;
     fore = k.back;
     back = k.fore;
-    below = λ v c d i j. ≼_trans _ _ _ (k.below v d c j i) (⊕-comm d c).0;
+    below = λ v c d i j. ≼_trans _ _ _ (k.below v d c j i) (⊕_comm d c).0;
     apart = λ v c d i j. k.apart v d c j i;
-    attained = ⊎_elim inl (λ m. inr (m.1, m.0, m.3, m.2, ≼_trans _ _ _ (⊕-comm m.1 m.0).0 m.4)) k.attained;
+    attained = ⊎_elim inl (λ m. inr (m.1, m.0, m.3, m.2, ≼_trans _ _ _ (⊕_comm m.1 m.0).0 m.4)) k.attained;
   }
 
   module _ (E : Roads C) (n s t : ℕ) (σ τ : Side Cost) (meet : ℕ) (best : Cost) (k : Parted E n s t σ τ meet best)
@@ -87,11 +87,11 @@ module _ (C : Costs) where
         back = k.back;
         below = λ v a b i j. ⊎_elim (λ i₀. ≼_trans _ _ _ less (m.below v a b i₀ j)) (λ r. each v r.0 a b r.1.road i j) (Expand.has_back C E mid after u c x v a i);
         apart = λ v a b i j. m.apart v a b (Expand.settled_back C E mid after u c x v a i) j;
-        attained = ⊎_elim (λ e. kept e.0 e.1) (λ q. inr (q.0, q.1, q.2, q.3, Sums.≼-≡ C q.4)) made;
+        attained = ⊎_elim (λ e. kept e.0 e.1) (λ q. inr (q.0, q.1, q.2, q.3, Sums.≼_≡ C q.4)) made;
       }
         where
           old : Attained C after τ meet best
-          old = ⊎_elim inl (λ q. let f = Expand.falls C E mid after u c x meet q.0 q.2 in inr (f.0, q.1, f.1, q.3, ≼_trans _ _ _ (⊕-mono _ _ q.1 f.2) q.4)) m.attained
+          old = ⊎_elim inl (λ q. let f = Expand.falls C E mid after u c x meet q.0 q.2 in inr (f.0, q.1, f.1, q.3, ≼_trans _ _ _ (⊕_mono _ _ q.1 f.2) q.4)) m.attained
 
           kept : best' ≡ best → meet' ≡ meet → Attained C after τ meet' best'
           kept e f = subst (λ z. Attained C after τ z best') (sym f) (subst (λ z. Attained C after τ meet z) (sym e) old)

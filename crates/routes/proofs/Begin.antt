@@ -14,7 +14,7 @@ use Rattle.routes.proofs.Gate
 use Rattle.routes.proofs.Expand
 
 module _ (C : Costs) where
-  open C use {Cost, ◌≼◌, ◌⊕◌, free, ≼_refl, ≼_trans, free-⊕}
+  open C use {Cost, ◌≼◌, ◌⊕◌, free, ≼_refl, ≼_trans, free_⊕}
 
   infix 40 ◌≼◌
   infixl 65 ◌⊕◌
@@ -38,7 +38,7 @@ module _ (C : Costs) where
 
     pub one : One C E size starts σ (λ _. 0)
     one = record {
-      sound = λ v c k. let f = has v c k in (v, f.0, Ways.over C (Sums.same-≡ C f.1) (Ways.way C stay));
+      sound = λ v c k. let f = has v c k in (v, f.0, Ways.over C (Sums.same_≡ C f.1) (Ways.way C stay));
       counted = λ v c k. subst (Priced C _) (has v c k).1 (Sums.priced_more C 0 _ free (omega arith) (Sums.priced_free C));
       inside = λ v c k. room v (has v c k).0;
       ordered = λ u v c d i j. absurd (unsettled u c i);
@@ -76,10 +76,10 @@ module _ (C : Costs) where
 
   module _ (E : Roads C) (own_s own_t : ℕ → Type 0) (size s t : ℕ) (x : State Cost) (h : Begins C s t x) (room_s : s < size) (room_t : t < size) where
     at_once : s ≡ t → x.best ≼ free
-    at_once e = ⊎_elim (λ b. Sums.≼-≡ C b.1) (λ b. absurd (b.0 e)) h.costs
+    at_once e = ⊎_elim (λ b. Sums.≼_≡ C b.1) (λ b. absurd (b.0 e)) h.costs
 
     attained : Attained C x.fore x.back x.meet x.best
-    attained = ⊎_elim (λ b. inr (met b.0 b.1 b.3)) (λ b. inl (Sums.≼-≡ C (sym b.1))) h.costs
+    attained = ⊎_elim (λ b. inr (met b.0 b.1 b.3)) (λ b. inl (Sums.≼_≡ C (sym b.1))) h.costs
       where
         met : s ≡ t → x.best ≡ free → x.meet ≡ s → (c : Cost) × (d : Cost) × Has (x.fore.label x.meet) c × Has (x.back.label x.meet) d × (c ⊕ d ≼ x.best)
         met e b m = (
@@ -87,11 +87,11 @@ module _ (C : Costs) where
           free,
           subst (λ z. Has (x.fore.label z) free) (sym m) (begun E size (At s) x.fore h.fore (is_at s) (at_room size s room_s) s refl),
           subst (λ z. Has (x.back.label z) free) (sym (m ∙ e)) (begun E size (At t) x.back h.back (is_at t) (at_room size t room_t) t refl),
-          ≼_trans _ _ _ (free-⊕ free).0 (Sums.≼-≡ C (sym b)),
+          ≼_trans _ _ _ (free_⊕ free).0 (Sums.≼_≡ C (sym b)),
         )
 
     covered : Covered C E s t x.best x.upper
-    covered = inl (⊎_elim (λ b. Sums.≼-≡ C (b.1 ∙ sym b.2)) (λ b. Sums.≼-≡ C (b.1 ∙ sym b.2)) h.costs)
+    covered = inl (⊎_elim (λ b. Sums.≼_≡ C (b.1 ∙ sym b.2)) (λ b. Sums.≼_≡ C (b.1 ∙ sym b.2)) h.costs)
 
     pub keeping : Keeping C E own_s own_t size s t x
     keeping = record {

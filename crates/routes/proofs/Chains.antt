@@ -38,7 +38,7 @@ module _ {K : Type 0} where
   has_holds (Settled d q) c h = (q, (h, refl))
 
 module _ (C : Costs) where
-  open C use {Cost, ◌≼◌, ◌⊕◌, free, blocked, ≼_refl, ≼_trans, ⊕-assoc, ⊕-comm, free-⊕, ⊕-more}
+  open C use {Cost, ◌≼◌, ◌⊕◌, free, blocked, ≼_refl, ≼_trans, ⊕_assoc, ⊕_comm, free_⊕, ⊕_more}
 
   infix 40 ◌≼◌
   infixl 65 ◌⊕◌
@@ -95,7 +95,7 @@ module _ (C : Costs) where
     back_less v u c d q h =
         let f = g.from v u c q in
         let e : c ≡ d = has_one (σ.label v) c d (holds_has (σ.label v) c (From u) q) h in
-        subst (λ z. f.0 ≼ z) (sym f.4 ∙ e) (⊕-more f.0 f.1)
+        subst (λ z. f.0 ≼ z) (sym f.4 ∙ e) (⊕_more f.0 f.1)
 
     pub part : {v : ℕ} {l : List ℕ} → Trail σ v l → (x : ℕ) → Among x l → (c : Cost) → Has (σ.label v) c → Part v l c x
     part (first {v} d q) x (inl e) c h = subst (Part v (v ∷ []) c) (sym e) (whole c h (first d q))
@@ -110,26 +110,26 @@ module _ (C : Costs) where
     pub follow : {v : ℕ} {l : List ℕ} → Trail σ v l → (c : Cost) → Has (σ.label v) c → (a : ℕ) × starts a × Course C (Back C E) v a l c
     follow (first {v} d q) c h =
         let f = g.root v d q in
-        (v, f.0, (free, end, Sums.same-≡ C (sym f.1 ∙ has_one (σ.label v) d c (holds_has (σ.label v) d Start q) h)))
+        (v, f.0, (free, end, Sums.same_≡ C (sym f.1 ∙ has_one (σ.label v) d c (holds_has (σ.label v) d Start q) h)))
     follow (then {v} {u} {l} d q w) c h =
         let f = g.from v u d q in
         let k = follow w f.0 f.2 in (
           k.0,
           k.1,
-          over (Sums.same_on C (⊕-comm f.1 f.0) (Sums.same-≡ C (sym f.4 ∙ has_one (σ.label v) d c (holds_has (σ.label v) d (From u) q) h))) (onward f.3 k.2),
+          over (Sums.same_on C (⊕_comm f.1 f.0) (Sums.same_≡ C (sym f.4 ∙ has_one (σ.label v) d c (holds_has (σ.label v) d (From u) q) h))) (onward f.3 k.2),
         )
 
     -- the chain read from its start, and a route on from its place
     pub lead : {v t : ℕ} {l m : List ℕ} {e : Cost} → Trail σ v l → (c : Cost) → Has (σ.label v) c → Course C E v t (v ∷ m) e → (a : ℕ) × starts a × Course C E a t (onto l m) (c ⊕ e)
     lead {e = e} (first {v} d q) c h r =
         let f = g.root v d q in
-        (v, f.0, over (Sums.same_on C (Sums.same_back C (free-⊕ e)) (Sums.same-≡ C (ap (λ k. k ⊕ e) (sym f.1 ∙ has_one (σ.label v) d c (holds_has (σ.label v) d Start q) h)))) r)
+        (v, f.0, over (Sums.same_on C (Sums.same_back C (free_⊕ e)) (Sums.same_≡ C (ap (λ k. k ⊕ e) (sym f.1 ∙ has_one (σ.label v) d c (holds_has (σ.label v) d Start q) h)))) r)
     lead {e = e} (then {v} {u} {l} d q w) c h r =
         let f = g.from v u d q in
         let k = lead w f.0 f.2 (onward f.3 r) in (
           k.0,
           k.1,
-          over (Sums.same_on C (Sums.same_back C (⊕-assoc f.0 f.1 e)) (Sums.same-≡ C (ap (λ k. k ⊕ e) (sym f.4 ∙ has_one (σ.label v) d c (holds_has (σ.label v) d (From u) q) h)))) k.2,
+          over (Sums.same_on C (Sums.same_back C (⊕_assoc f.0 f.1 e)) (Sums.same_≡ C (ap (λ k. k ⊕ e) (sym f.4 ∙ has_one (σ.label v) d c (holds_has (σ.label v) d (From u) q) h)))) k.2,
         )
 
     -- the place of the chain nearest to the start that is in m

@@ -19,7 +19,7 @@ pub from_one : (u w : ℕ) → From u ≡ From w → u ≡ w
 from_one u w e = cc
 
 module _ (C : Costs) where
-  open C use {Cost, ◌≼◌, ◌⊕◌, ≼_refl, ≼_trans, ⊕-more}
+  open C use {Cost, ◌≼◌, ◌⊕◌, ≼_refl, ≼_trans, ⊕_more}
 
   infix 40 ◌≼◌
   infixl 65 ◌⊕◌
@@ -75,13 +75,13 @@ module _ (C : Costs) where
         (priced : (v : ℕ) (p : Cost) → E u v p → Priced C (tally σ.label size) (c ⊕ p)) where
       -- each road out of u is relaxed
       pub relaxed_u : (v : ℕ) (p : Cost) → E u v p → (d : Cost) × Has (σ'.label v) d × (d ≼ c ⊕ p)
-      relaxed_u v p r = ⊎_elim left (λ k. (c ⊕ k.0, subst (λ z. Has z (c ⊕ k.0)) (sym k.1.is) refl, Sums.≼-≡ C (ap (λ z. c ⊕ z) (single u v k.0 p k.1.road r)))) (h.labels v)
+      relaxed_u v p r = ⊎_elim left (λ k. (c ⊕ k.0, subst (λ z. Has z (c ⊕ k.0)) (sym k.1.is) refl, Sums.≼_≡ C (ap (λ z. c ⊕ z) (single u v k.0 p k.1.road r)))) (h.labels v)
         where
           left : Leaves C E σ σ' u c v → (d : Cost) × Has (σ'.label v) d × (d ≼ c ⊕ p)
           left l =
               let f = l.fits p r in
               let put : Has (σ.label v) f.0 → Has (σ'.label v) f.0 = λ k. subst (λ z. Has z f.0) (sym l.is) k in
-              ⊎_elim (λ k. (f.0, put (settled_has (σ.label v) f.0 k), ≼_trans _ _ _ (low v f.0 k) (⊕-more c p))) (λ k. (f.0, put k.0, k.1)) f.1
+              ⊎_elim (λ k. (f.0, put (settled_has (σ.label v) f.0 k), ≼_trans _ _ _ (low v f.0 k) (⊕_more c p))) (λ k. (f.0, put k.0, k.1)) f.1
 
       pub at_u : (v : ℕ) (d : Cost) → v ≡ u → IsSettled (σ'.label v) d → c ≡ d
       at_u v d e k =
@@ -95,7 +95,7 @@ module _ (C : Costs) where
         counted = λ v d k. rw (same_count size) (⊎_elim (g.counted v d) (λ n. subst (Priced C (tally σ.label size)) n.2 (priced v n.0 n.1.road)) (has_back v d k));
         inside = λ v d k. ⊎_elim (g.inside v d) (λ n. inside u v n.0 n.1.road) (has_back v d k);
         ordered = λ w v a b i j. ⊎_elim (λ k. g.ordered w v a b (settled_back w a i) k)
-            (λ n. ≼_trans _ _ _ (low w a (settled_back w a i)) (subst (λ z. c ≼ z) n.1 (⊕-more c n.0))) (reached_back v b j);
+            (λ n. ≼_trans _ _ _ (low w a (settled_back w a i)) (subst (λ z. c ≼ z) n.1 (⊕_more c n.0))) (reached_back v b j);
         relaxed = λ w v a p i r. ⊎_elim
             (λ e. let k = relaxed_u v p (subst (λ z. E z v p) e r) in (k.0, k.1, subst (λ z. k.0 ≼ z ⊕ p) (at_u w a e i.0) k.2))
             (λ o. let k = g.relaxed w v a p o r in let f = falls v k.0 k.1 in (f.0, f.1, ≼_trans _ _ _ f.2 k.2)) (expanded_back w a i);

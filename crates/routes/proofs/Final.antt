@@ -9,7 +9,7 @@ use Rattle.routes.proofs.Ways
 use Rattle.routes.proofs.Scan
 
 module _ (C : Costs) where
-  open C use {Cost, ◌≼◌, ◌⊕◌, free, blocked, ≼_trans, ≼-total, ≼-blocked, ⊕-assoc, ⊕-comm, ⊕-mono, ⊕-more}
+  open C use {Cost, ◌≼◌, ◌⊕◌, free, blocked, ≼_trans, ≼_total, ≼_blocked, ⊕_assoc, ⊕_comm, ⊕_mono, ⊕_more}
 
   infix 40 ◌≼◌
   infixl 65 ◌⊕◌
@@ -61,13 +61,13 @@ module _ (C : Costs) where
     apart {w} h l b = by h.unexpanded b.unexpanded
       where
         front : h.cost ⊕ h.after ≼ w
-        front = ≼_trans _ _ _ (⊕-mono _ _ _ h.least) h.whole
+        front = ≼_trans _ _ _ (⊕_mono _ _ _ h.least) h.whole
 
         rear : (b.cost ⊕ b.after) ⊕ h.cost ≼ w
-        rear = ≼_trans _ _ _ (⊕-mono _ _ _ (≼_trans _ _ _ (⊕-mono _ _ _ b.least) b.whole)) (≼_trans _ _ _ (⊕-comm h.after h.cost).0 front)
+        rear = ≼_trans _ _ _ (⊕_mono _ _ _ (≼_trans _ _ _ (⊕_mono _ _ _ b.least) b.whole)) (≼_trans _ _ _ (⊕_comm h.after h.cost).0 front)
 
         sum : h.cost ⊕ b.cost ≼ w
-        sum = ≼_trans _ _ _ (Sums.mono_left C _ _ h.cost (≼_trans _ _ _ b.least (≼_trans _ _ _ (⊕-more b.before b.after) b.whole))) front
+        sum = ≼_trans _ _ _ (Sums.mono_left C _ _ h.cost (≼_trans _ _ _ b.least (≼_trans _ _ _ (⊕_more b.before b.after) b.whole))) front
 
         by : IsReached (x.fore.label h.place) h.cost ⊎ Pruned x.fore h.place h.cost →
             IsReached (x.back.label b.place) b.cost ⊎ Pruned x.back b.place b.cost → Shown x.best w
@@ -75,7 +75,7 @@ module _ (C : Costs) where
         by (inl r) (inr p) =
             let v = Ways.join C (Ways.way C b.rest) (Ways.turned C (Ways.from_one C (i.fore.sound h.place h.cost h.has))) in
             absurd (i.cut_back.dear b.place b.cost v.0 p v.1
-            (≼_trans _ _ _ (Sums.mono_left C _ _ b.cost v.2.0) (≼_trans _ _ _ (⊕-assoc b.cost b.after h.cost).1 (≼_trans _ _ _ rear l))))
+            (≼_trans _ _ _ (Sums.mono_left C _ _ b.cost v.2.0) (≼_trans _ _ _ (⊕_assoc b.cost b.after h.cost).1 (≼_trans _ _ _ rear l))))
         by (inl r) (inl q) = (
           h.cost ⊕ b.cost,
           Sums.few₄ C (Sums.few₂ C (i.fore.priced h.place h.cost h.has) (i.back.priced b.place b.cost b.has) (omega arith) (omega arith)),
@@ -97,11 +97,11 @@ module _ (C : Costs) where
     under = ⊎_elim (λ h. h) (λ v. let m = within v.1 v.2.0 in ≼_trans _ _ _ m.2 (≼_trans _ _ _ m.3 v.2.0)) i.covered
 
     lower : (w : Cost) → Walk C E s t w → x.best ≼ w
-    lower w v = ⊎_elim (λ l. let m = within v l in ≼_trans _ _ _ m.2 m.3) (λ l. ≼_trans _ _ _ under l) (≼-total w x.upper)
+    lower w v = ⊎_elim (λ l. let m = within v l in ≼_trans _ _ _ m.2 m.3) (λ l. ≼_trans _ _ _ under l) (≼_total w x.upper)
 
     open_way : (w : Cost) → Walk C E s t w → blocked ≼ x.best → ⊥
     open_way w v e =
-        let m = within v (≼_trans w blocked x.upper (≼-blocked w) (≼_trans _ _ _ e under)) in
+        let m = within v (≼_trans w blocked x.upper (≼_blocked w) (≼_trans _ _ _ e under)) in
         Sums.few_open C m.0 m.1 (≼_trans _ _ _ e m.2)
 
     -- the way through the meeting place

@@ -24,7 +24,7 @@ known_or none = inl refl
 known_or (some g) = inr (g, refl)
 
 module _ (C : Costs) where
-  open C use {Cost, ◌≼◌, ◌⊕◌, ≼_trans, ⊕-more}
+  open C use {Cost, ◌≼◌, ◌⊕◌, ≼_trans, ⊕_more}
 
   infix 40 ◌≼◌
   infixl 65 ◌⊕◌
@@ -47,7 +47,7 @@ module _ (C : Costs) where
           held t =
               ≼_trans _ _ _
               (⊎_elim (λ r. h.least t.place t.cost r) (λ p. absurd (w e t.place t.cost p)) t.unexpanded)
-              (≼_trans _ _ _ t.least (≼_trans _ _ _ (⊕-more t.before t.after) t.whole))
+              (≼_trans _ _ _ t.least (≼_trans _ _ _ (⊕_more t.before t.after) t.whole))
 
       settled_before : (z : ℕ) → ((d : Cost) → IsSettled (σ'.label z) d → ⊥) → (d : Cost) → IsSettled (σ.label z) d → ⊥
       settled_before z k d r = k d (Settle.settled_over C σ σ' u c o h z d r)

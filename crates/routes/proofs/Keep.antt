@@ -18,14 +18,14 @@ use Rattle.routes.proofs.LowerBound
 
 module _ (C : Costs) (W : World C) (L : Lawful C W) (s t : ℕ) (x x' : State C.Cost)
     (k : Keeping C W.Edge (Own C W s) (Own C W t) W.size s t x) where
-  open C use {Cost, ◌≼◌, ◌⊕◌, ≼_refl, ≼_trans, ⊕-mono}
+  open C use {Cost, ◌≼◌, ◌⊕◌, ≼_refl, ≼_trans, ⊕_mono}
 
   infix 40 ◌≼◌
   infixl 65 ◌⊕◌
   -- what the turn does before it prunes or expands
   module _ (u : ℕ) (c : Cost) (mid : Side Cost) (low : Cost) (h : Settling C W s t x x' u c mid low) where
     falls : low ≼ x.upper
-    falls = ⊎_elim (λ e. Sums.≼-≡ C e) (λ y. y.5) h.shortcut
+    falls = ⊎_elim (λ e. Sums.≼_≡ C e) (λ y. y.5) h.shortcut
 
     -- the upper bound keeps what is kept
     covered_low : Covered C W.Edge s t x.best low
@@ -168,13 +168,13 @@ module _ (C : Costs) (W : World C) (L : Lawful C W) (s t : ℕ) (x x' : State C.
       across = λ w v a p d i r j. ⊎_elim
           (λ e. let o = on v p (subst (λ z. W.Edge z v p) e.0 r) in
           ≼_trans _ _ _ (T.picks.each v p o.0 d (subst (λ z. W.Edge z v p) e.0 r) o.1 (settled_has (x.back.label v) d j.0))
-          (⊕-mono _ _ d (subst (λ z. o.0 ≼ z ⊕ p) e.1 o.2)))
+          (⊕_mono _ _ d (subst (λ z. o.0 ≼ z ⊕ p) e.1 o.2)))
           (λ o. ≼_trans _ _ _ T.picks.less (k.met.across w v a p d o r j)) (which w a i);
       at_goal = λ w a p i r. ⊎_elim
           (λ e. let o = on t p (subst (λ z. W.Edge z t p) e.0 r) in
           let b = k.back.begun t refl in
           ≼_trans _ _ _ (T.picks.each t p o.0 b.0 (subst (λ z. W.Edge z t p) e.0 r) o.1 b.1)
-          (≼_trans _ _ _ (Sums.mono₂ C (subst (λ z. o.0 ≼ z ⊕ p) e.1 o.2) b.2) (Sums.⊕-free C _).0))
+          (≼_trans _ _ _ (Sums.mono₂ C (subst (λ z. o.0 ≼ z ⊕ p) e.1 o.2) b.2) (Sums.⊕_free C _).0))
           (λ o. ≼_trans _ _ _ T.picks.less (k.met.at_goal w a p o r)) (which w a i);
       at_start = λ v d p j r. ≼_trans _ _ _ T.picks.less (k.met.at_start v d p j r);
       at_once = λ e. ≼_trans _ _ _ T.picks.less (k.met.at_once e);
@@ -182,17 +182,17 @@ module _ (C : Costs) (W : World C) (L : Lawful C W) (s t : ℕ) (x x' : State C.
 
     expanded_attained : Attained C x'.fore x'.back x'.meet x'.best
     expanded_attained = subst (λ z. Attained C x'.fore z x'.meet x'.best) (sym T.settling.back_same)
-        (⊎_elim (λ e. subst₂ (Attained C x'.fore x.back) (sym e.1) (sym e.0) old) (λ m. inr (m.0, m.1, m.2, m.3, Sums.≼-≡ C m.4)) T.picks.made)
+        (⊎_elim (λ e. subst₂ (Attained C x'.fore x.back) (sym e.1) (sym e.0) old) (λ m. inr (m.0, m.1, m.2, m.3, Sums.≼_≡ C m.4)) T.picks.made)
       where
         old : Attained C x'.fore x.back x.meet x.best
         old = ⊎_elim inl
             (λ m. let f = Expand.falls C W.Edge T.mid x'.fore T.u T.c T.expands x.meet m.0 (has_mid T.u T.c T.mid T.low T.settling x.meet m.0 m.2) in
-            inr (f.0, m.1, f.1, m.3, ≼_trans _ _ _ (⊕-mono _ _ m.1 f.2) m.4)) k.attained
+            inr (f.0, m.1, f.1, m.3, ≼_trans _ _ _ (⊕_mono _ _ m.1 f.2) m.4)) k.attained
 
     expanded_covered : Covered C W.Edge s t x'.best x'.upper
     expanded_covered =
         ⊎_elim (λ e. subst (Covered C W.Edge s t x'.best) (sym e) (⊎_elim (λ l. inl (≼_trans _ _ _ T.picks.less l)) inr (covered_low T.u T.c T.mid T.low T.settling)))
-        (λ e. inl (Sums.≼-≡ C (sym e))) T.picks.upper_is
+        (λ e. inl (Sums.≼_≡ C (sym e))) T.picks.upper_is
 
     expanded_whole : Unpruned C x'.fore
     expanded_whole e z d p =

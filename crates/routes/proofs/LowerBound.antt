@@ -12,7 +12,7 @@ use Rattle.routes.proofs.Sums
 use Rattle.routes.proofs.Ways
 
 module _ (C : Costs) (W : World C) (L : Lawful C W) where
-  open C use {Cost, ◌≼◌, ◌⊕◌, free, ≼_refl, ≼_trans, ⊕-assoc, free-⊕, ⊕-mono}
+  open C use {Cost, ◌≼◌, ◌⊕◌, free, ≼_refl, ≼_trans, ⊕_assoc, free_⊕, ⊕_mono}
 
   infix 40 ◌≼◌
   infixl 65 ◌⊕◌
@@ -40,7 +40,7 @@ module _ (C : Costs) (W : World C) (L : Lawful C W) where
   entered (go {a} {b} {d = t} {p} {c} r w) n = by (ℕ_discrete (W.district b) (W.district t)) (entered w)
     where
       by : Dec (W.district b ≡ W.district t) → ((W.district b ≡ W.district t → ⊥) → Entered b t c) → Entered a t (p ⊕ c)
-      by (yes e) _ = record { gate = b; front = p ⊕ free; rest = c; to_gate = go r stay; from_gate = w; inside = (L.inside a b p r).1; own = ((L.crossing a b p r (λ f. n (f ∙ e))).1, e); sum = ⊕-mono _ _ c (Sums.⊕-free C p).0 }
+      by (yes e) _ = record { gate = b; front = p ⊕ free; rest = c; to_gate = go r stay; from_gate = w; inside = (L.inside a b p r).1; own = ((L.crossing a b p r (λ f. n (f ∙ e))).1, e); sum = ⊕_mono _ _ c (Sums.⊕_free C p).0 }
       by (no m) more =
           let k = more m in
           record {
@@ -51,7 +51,7 @@ module _ (C : Costs) (W : World C) (L : Lawful C W) where
             from_gate = k.from_gate;
             inside = k.inside;
             own = k.own;
-            sum = ≼_trans _ _ _ (⊕-assoc p k.front k.rest).0 (Sums.mono_left C _ _ p k.sum);
+            sum = ≼_trans _ _ _ (⊕_assoc p k.front k.rest).0 (Sums.mono_left C _ _ p k.sum);
           }
 
   entry_low : {a b : ℕ} {c : Cost} → a < W.size → b < W.size → Walk C W.Edge a b c → W.entry (W.district a) (W.district b) ≼ c
@@ -69,7 +69,7 @@ module _ (C : Costs) (W : World C) (L : Lawful C W) where
       where
         by : Dec (W.district x ≡ W.district t) → W.entry (W.district x) (W.district t) ⊕ g ≼ q
         by (yes d) =
-            ≼_trans _ _ _ (Sums.mono₂ C (subst (λ z. W.entry (W.district x) z ≼ free) d (entry_low room room stay)) (bound g e x (inr n) q w)) (free-⊕ q).0
+            ≼_trans _ _ _ (Sums.mono₂ C (subst (λ z. W.entry (W.district x) z ≼ free) d (entry_low room room stay)) (bound g e x (inr n) q w)) (free_⊕ q).0
         by (no m) =
             let k = entered w m in
             ≼_trans _ _ _
@@ -82,4 +82,4 @@ module _ (C : Costs) (W : World C) (L : Lawful C W) where
     dear σ x c upper q room_x room_t p k w l =
         ⊎_elim (λ e. ⊎_elim (λ b. L.none x t (stripped w).0 room_x room_t (stripped w).1 b)
         (λ m. Sums.few_open C _ (Sums.few₃ C k m (i.few_prices p.other p.other_is) (omega arith) (omega arith) (omega arith)) e) (L.listed x t room_x room_t))
-        (λ n. n (≼_trans _ _ _ (⊕-assoc _ _ _).0 (≼_trans _ _ _ (Sums.mono_left C _ _ c (lower_bound x q p.other room_x p.other_is p.unsettled w)) l))) p.dear
+        (λ n. n (≼_trans _ _ _ (⊕_assoc _ _ _).0 (≼_trans _ _ _ (Sums.mono_left C _ _ c (lower_bound x q p.other room_x p.other_is p.unsettled w)) l))) p.dear

@@ -9,7 +9,7 @@ use Rattle.routes.proofs.Sums
 use Rattle.routes.proofs.Ways
 
 module _ (C : Costs) where
-  open C use {Cost, ◌≼◌, ◌⊕◌, ≼_trans, ⊕-assoc, ⊕-comm}
+  open C use {Cost, ◌≼◌, ◌⊕◌, ≼_trans, ⊕_assoc, ⊕_comm}
 
   infix 40 ◌≼◌
   infixl 65 ◌⊕◌
@@ -27,7 +27,7 @@ module _ (C : Costs) where
   }
 
   around : (a p d : Cost) → (a ⊕ p) ⊕ d ≼ (d ⊕ p) ⊕ a
-  around a p d = ≼_trans _ _ _ (⊕-comm (a ⊕ p) d).0 (≼_trans _ _ _ (Sums.mono_left C _ _ d (⊕-comm a p).0) (⊕-assoc d p a).1)
+  around a p d = ≼_trans _ _ _ (⊕_comm (a ⊕ p) d).0 (≼_trans _ _ _ (Sums.mono_left C _ _ d (⊕_comm a p).0) (⊕_assoc d p a).1)
 
   pub keeping : (E : Roads C) (own_s own_t : ℕ → Type 0) (size s t : ℕ) (x : State Cost) → Keeping C E own_s own_t size s t x → Keeping C (Back C E) own_t own_s size t s (swap x)
   keeping E own_s own_t size s t x k = record {
@@ -47,6 +47,6 @@ module _ (C : Costs) where
       at_start = k.met.at_goal;
       at_once = λ e. k.met.at_once (sym e);
     };
-    attained = ⊎_elim inl (λ m. inr (m.1, m.0, m.3, m.2, ≼_trans _ _ _ (⊕-comm m.1 m.0).0 m.4)) k.attained;
+    attained = ⊎_elim inl (λ m. inr (m.1, m.0, m.3, m.2, ≼_trans _ _ _ (⊕_comm m.1 m.0).0 m.4)) k.attained;
     covered = ⊎_elim inl (λ w. inr (Ways.turned C w)) k.covered;
   }

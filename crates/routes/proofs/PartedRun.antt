@@ -29,7 +29,7 @@ use Rattle.routes.proofs.Apart.{Fair, fair_other, Parted}
 use Rattle.routes.proofs.Apart
 
 module _ (C : Costs) where
-  open C use {Cost, ◌≼◌, ◌⊕◌, free, blocked, ≼_refl, ≼_trans, free-⊕}
+  open C use {Cost, ◌≼◌, ◌⊕◌, free, blocked, ≼_refl, ≼_trans, free_⊕}
 
   infix 40 ◌≼◌
   infixl 65 ◌⊕◌
@@ -276,7 +276,7 @@ module _ (C : Costs) where
             free,
             subst (λ l. Has l free) (sym (fore_sets.start s refl)) refl,
             subst (λ l. Has l free) (sym (back_sets.start s (eqb-true s t e))) refl,
-            (free-⊕ free).0,
+            (free_⊕ free).0,
           )
           attained false e = inl (≼_refl blocked)
 

@@ -10,7 +10,7 @@ use Rattle.routes.proofs.Sums
 
 -- a list of labels that starts at i; place number i + k is its k-th
 module _ (C : Costs) (S : Scale C) where
-  open C use {Cost, ◌≼◌, ◌⊕◌, ≼_trans, ≼-total}
+  open C use {Cost, ◌≼◌, ◌⊕◌, ≼_trans, ≼_total}
 
   infix 40 ◌≼◌
   infixl 65 ◌⊕◌
@@ -18,7 +18,7 @@ module _ (C : Costs) (S : Scale C) where
 
   -- a test that fails turns the order round
   pub leq_over : (a b : Cost) → leq a b ≡ false → b ≼ a
-  leq_over a b e = ⊎_elim (λ l. absurd (leq_false a b e l)) (λ l. l) (≼-total a b)
+  leq_over a b e = ⊎_elim (λ l. absurd (leq_false a b e l)) (λ l. l) (≼_total a b)
 
   pub record Nearest (i : ℕ) (l : List (Label Cost)) (f : Found Cost) : Type 0 where
     pub at : ℕ
@@ -56,7 +56,7 @@ module _ (C : Costs) (S : Scale C) where
   near i c q l none h = record { at = 0; place_is = omega arith; in_range = omega arith; label_is = refl; least = least; lowest = λ k d r w. omega arith }
     where
       least : (k : ℕ) (d : Cost) → IsReached (label_at (Reached c q ∷ l) k) d → c ≼ d
-      least zero d r = Sums.≼-≡ C r
+      least zero d r = Sums.≼_≡ C r
       least (suc k) d r = absurd (h k d r)
   near i c q l (some f) h = by (leq c f.cost) refl
     where
@@ -64,16 +64,16 @@ module _ (C : Costs) (S : Scale C) where
       by true e = record { at = 0; place_is = omega arith; in_range = omega arith; label_is = refl; least = least; lowest = λ k d r w. omega arith }
         where
           least : (k : ℕ) (d : Cost) → IsReached (label_at (Reached c q ∷ l) k) d → c ≼ d
-          least zero d r = Sums.≼-≡ C r
+          least zero d r = Sums.≼_≡ C r
           least (suc k) d r = ≼_trans _ _ _ (leq_true c f.cost e) (h.least k d r)
       by false e = record { at = suc h.at; place_is = h.place_is ∙ omega arith; in_range = omega (arith, h.in_range); label_is = h.label_is; least = least; lowest = lowest }
         where
           lowest : (k : ℕ) (d : Cost) → IsReached (label_at (Reached c q ∷ l) k) d → d ≼ f.cost → suc h.at ≤ k
-          lowest zero d r w = absurd (leq_false _ _ e (≼_trans _ _ _ (Sums.≼-≡ C r) w))
+          lowest zero d r w = absurd (leq_false _ _ e (≼_trans _ _ _ (Sums.≼_≡ C r) w))
           lowest (suc k) d r w = omega (arith, h.lowest k d r w)
 
           least : (k : ℕ) (d : Cost) → IsReached (label_at (Reached c q ∷ l) k) d → f.cost ≼ d
-          least zero d r = ≼_trans _ _ _ (leq_over c f.cost e) (Sums.≼-≡ C r)
+          least zero d r = ≼_trans _ _ _ (leq_over c f.cost e) (Sums.≼_≡ C r)
           least (suc k) d r = h.least k d r
 
   pub nearest_ok : (i : ℕ) (l : List (Label Cost)) → NearestOk i l (Search.nearest (ops C S) i l)
@@ -176,7 +176,7 @@ module _ (C : Costs) (S : Scale C) where
       { at = 0; place_is = omega arith; origin_is = refl; road = (p₀, subst (λ z. r z ≡ some p₀) (omega arith) e₀); mine = c; theirs = d; has_mine = hc; has_theirs = hd; cost_is = refl; least = least; lowest = λ k p a b e u v w. omega arith }
     where
       least : (k : ℕ) (p a b : Cost) → r (i + k) ≡ some p → Has (label_at (x ∷ l) k) a → Has (label_at (y ∷ m) k) b → c ⊕ d ≼ a ⊕ b
-      least zero p a b e u v = Sums.mono₂ C (Sums.≼-≡ C (oc a u)) (Sums.≼-≡ C (od b v))
+      least zero p a b e u v = Sums.mono₂ C (Sums.≼_≡ C (oc a u)) (Sums.≼_≡ C (od b v))
       least (suc k) p a b e u v = absurd (h k p a b (subst (λ z. r z ≡ some p) (omega arith) e) u v)
   near_sum r i x y c d l m (some f) hc hd p₀ e₀ oc od h = by (leq (c ⊕ d) f.cost) refl
     where
@@ -184,7 +184,7 @@ module _ (C : Costs) (S : Scale C) where
       by true q = record { at = 0; place_is = omega arith; origin_is = refl; road = (p₀, subst (λ z. r z ≡ some p₀) (omega arith) e₀); mine = c; theirs = d; has_mine = hc; has_theirs = hd; cost_is = refl; least = least; lowest = λ k p a b e u v w. omega arith }
         where
           least : (k : ℕ) (p a b : Cost) → r (i + k) ≡ some p → Has (label_at (x ∷ l) k) a → Has (label_at (y ∷ m) k) b → c ⊕ d ≼ a ⊕ b
-          least zero p a b e u v = Sums.mono₂ C (Sums.≼-≡ C (oc a u)) (Sums.≼-≡ C (od b v))
+          least zero p a b e u v = Sums.mono₂ C (Sums.≼_≡ C (oc a u)) (Sums.≼_≡ C (od b v))
           least (suc k) p a b e u v = ≼_trans _ _ _ (leq_true _ _ q) (h.least k p a b (subst (λ z. r z ≡ some p) (omega arith) e) u v)
       by false q = record {
         at = suc h.at;
@@ -201,11 +201,11 @@ module _ (C : Costs) (S : Scale C) where
       }
         where
           lowest : (k : ℕ) (p a b : Cost) → r (i + k) ≡ some p → Has (label_at (x ∷ l) k) a → Has (label_at (y ∷ m) k) b → a ⊕ b ≼ f.cost → suc h.at ≤ k
-          lowest zero p a b e u v w = absurd (leq_false _ _ q (≼_trans _ _ _ (Sums.mono₂ C (Sums.≼-≡ C (oc a u)) (Sums.≼-≡ C (od b v))) w))
+          lowest zero p a b e u v w = absurd (leq_false _ _ q (≼_trans _ _ _ (Sums.mono₂ C (Sums.≼_≡ C (oc a u)) (Sums.≼_≡ C (od b v))) w))
           lowest (suc k) p a b e u v w = omega (arith, h.lowest k p a b (subst (λ z. r z ≡ some p) (omega arith) e) u v w)
 
           least : (k : ℕ) (p a b : Cost) → r (i + k) ≡ some p → Has (label_at (x ∷ l) k) a → Has (label_at (y ∷ m) k) b → f.cost ≼ a ⊕ b
-          least zero p a b e u v = ≼_trans _ _ _ (leq_over _ _ q) (Sums.mono₂ C (Sums.≼-≡ C (oc a u)) (Sums.≼-≡ C (od b v)))
+          least zero p a b e u v = ≼_trans _ _ _ (leq_over _ _ q) (Sums.mono₂ C (Sums.≼_≡ C (oc a u)) (Sums.≼_≡ C (od b v)))
           least (suc k) p a b e u v = h.least k p a b (subst (λ z. r z ≡ some p) (omega arith) e) u v
 
   none_some : (o : Option Cost) (p : Cost) → o ≡ none → o ≡ some p → ⊥

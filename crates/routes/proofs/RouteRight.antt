@@ -38,13 +38,13 @@ onto_spliced (a ∷ l) k m h = onto_spliced l (a ∷ k) m (λ y i. h y (inr i)) 
     by true e = absurd (h a (inl refl) (member_in a m e))
     by false e = refl
 
-onto-++ : (l k m : List ℕ) → onto (l ++ k) m ≡ onto k (onto l m)
-onto-++ [] k m = refl
-onto-++ (a ∷ l) k m = onto-++ l k (a ∷ m)
+onto_++ : (l k m : List ℕ) → onto (l ++ k) m ≡ onto k (onto l m)
+onto_++ [] k m = refl
+onto_++ (a ∷ l) k m = onto_++ l k (a ∷ m)
 
-in-++ : (a : ℕ) (l k : List ℕ) → Among a (l ++ (a ∷ k))
-in-++ a [] k = inl refl
-in-++ a (b ∷ l) k = inr (in-++ a l k)
+in_++ : (a : ℕ) (l k : List ℕ) → Among a (l ++ (a ∷ k))
+in_++ a [] k = inl refl
+in_++ a (b ∷ l) k = inr (in_++ a l k)
 
 -- from the one place where it stands
 from_place_at : (a : ℕ) (l k : List ℕ) → NoneTwice (l ++ (a ∷ k)) → from_place a (l ++ (a ∷ k)) ≡ a ∷ k
@@ -56,15 +56,15 @@ from_place_at a [] k h = by (eqb a a) (eq-eqb a a refl)
 from_place_at a (b ∷ l) k h = by (eqb a b) refl (from_place_at a l k h.1)
   where
     by : (c : Bool) → eqb a b ≡ c → from_place a (l ++ (a ∷ k)) ≡ a ∷ k → elim c [ true ↦ b ∷ (l ++ (a ∷ k)) | false ↦ from_place a (l ++ (a ∷ k)) ] ≡ a ∷ k
-    by true e _ = absurd (h.0 (subst (λ z. Among z (l ++ (a ∷ k))) (eqb-true a b e) (in-++ a l k)))
+    by true e _ = absurd (h.0 (subst (λ z. Among z (l ++ (a ∷ k))) (eqb-true a b e) (in_++ a l k)))
     by false e r = r
 
 splice : (front ahead other_front rest : List ℕ) (cut : ℕ) → NoneTwice (other_front ++ (cut ∷ rest)) → ((y : ℕ) → Among y ahead → Among y (other_front ++ (cut ∷ rest)) → ⊥) →
     spliced (onto (front ++ (cut ∷ ahead)) []) (other_front ++ (cut ∷ rest)) ≡ onto ahead (cut ∷ rest)
 splice front ahead other_front rest cut n h =
-    ap (λ z. spliced z (other_front ++ (cut ∷ rest))) (onto-++ front (cut ∷ ahead) [])
+    ap (λ z. spliced z (other_front ++ (cut ∷ rest))) (onto_++ front (cut ∷ ahead) [])
     ∙ onto_spliced ahead (cut ∷ onto front []) (other_front ++ (cut ∷ rest)) h
-    ∙ ap (onto ahead) (by (member cut (other_front ++ (cut ∷ rest))) (in_member cut _ (in-++ cut other_front rest)))
+    ∙ ap (onto ahead) (by (member cut (other_front ++ (cut ∷ rest))) (in_member cut _ (in_++ cut other_front rest)))
   where
     by : (b : Bool) → b ≡ true → elim b [ true ↦ from_place cut (other_front ++ (cut ∷ rest)) | false ↦ cut ∷ spliced (onto front []) (other_front ++ (cut ∷ rest)) ] ≡ cut ∷ rest
     by true e = from_place_at cut other_front rest n

@@ -183,7 +183,7 @@ module _ (C : Costs) (S : Scale C) where
       has_mine = ha;
       has_theirs = hb;
       cost_is = refl;
-      least = λ v c d k i j. ⊎_elim (λ y. u v c d y i j) (λ e. Sums.≼-≡ C (sum_at v c d e i j)) k;
+      least = λ v c d k i j. ⊎_elim (λ y. u v c d y i j) (λ e. Sums.≼_≡ C (sum_at v c d e i j)) k;
       lowest = λ v c d k i j q. ⊎_elim (λ y. n v c d y i j q) (λ e. subst (λ z. w ≤ z) (sym e) (omega arith)) k;
     }
 

@@ -35,7 +35,7 @@ pair_turned (some p) a b e =
     ap (λ (z : ℕ × ℕ). some (z.1, z.0)) q
 
 module _ (C : Costs) where
-  open C use {Cost, ◌≼◌, ◌⊕◌, free, blocked, ≼_trans, ⊕-comm}
+  open C use {Cost, ◌≼◌, ◌⊕◌, free, blocked, ≼_trans, ⊕_comm}
 
   infix 40 ◌≼◌
   infixl 65 ◌⊕◌
@@ -56,7 +56,7 @@ module _ (C : Costs) where
   paired_other G h i j a b e = Ways.turned C (h j i b a (pair_turned (G.pair j i) a b e))
 
   stop_other : (x : State Cost) → Stopped C x → Stopped C (swap x)
-  stop_other x h y z c d i j = ≼_trans _ _ _ (h z y d c j i) (⊕-comm d c).0
+  stop_other x h y z c d i j = ≼_trans _ _ _ (h z y d c j i) (⊕_comm d c).0
 
   -- a turn settles one place more
   turn_tally : (W : World C) (s t : ℕ) (x x' : State Cost) → Keeping C W.Edge (Own C W s) (Own C W t) W.size s t x → Turn C W s t x x' →

@@ -30,7 +30,7 @@ has_one (Reached e o) c d h k = sym h ∙ k
 has_one (Settled e o) c d h k = sym h ∙ k
 
 module _ (C : Costs) where
-  open C use {Cost, ◌≼◌, ◌⊕◌, free, ≼_refl, ≼_trans, ⊕-assoc, free-⊕, ⊕-mono, ⊕-more}
+  open C use {Cost, ◌≼◌, ◌⊕◌, free, ≼_refl, ≼_trans, ⊕_assoc, free_⊕, ⊕_mono, ⊕_more}
 
   infix 40 ◌≼◌
   infixl 65 ◌⊕◌
@@ -87,7 +87,7 @@ module _ (C : Costs) where
         let d = labelled a p m in
         elim (which (σ.label a) (σ.expanded a) d.0 d.1) [
           | inl h ↦ inr (held d (inl h))
-          | inr (inl o) ↦ inl (record { cost = d.0; expanded_there = o; least = ≼_trans _ _ _ d.2 (⊕-more p free); came = came_at a p _ (⊕-more p free) m })
+          | inr (inl o) ↦ inl (record { cost = d.0; expanded_there = o; least = ≼_trans _ _ _ d.2 (⊕_more p free); came = came_at a p _ (⊕_more p free) m })
           | inr (inr h) ↦ inr (held d (inr h))
         ]
       where
@@ -97,7 +97,7 @@ module _ (C : Costs) where
         let d = labelled a p m in
         elim (which (σ.label a) (σ.expanded a) d.0 d.1) [
           | inl h ↦ inr (held d (inl h))
-          | inr (inl o) ↦ at_most _ _ (⊕-assoc p r c).0 (scan (p ⊕ r) (inr (a, d.0, r, o, e, ⊕-mono _ _ r d.2)) w)
+          | inr (inl o) ↦ at_most _ _ (⊕_assoc p r c).0 (scan (p ⊕ r) (inr (a, d.0, r, o, e, ⊕_mono _ _ r d.2)) w)
           | inr (inr h) ↦ inr (held d (inr h))
         ]
       where
@@ -106,4 +106,4 @@ module _ (C : Costs) where
 
     -- from a start
     pub scan₀ : {a t : ℕ} {q : Cost} → starts a → Walk C E a t q → Through E starts t σ q ⊎ Held E starts t σ q
-    scan₀ {a} {t} {q} s w = at_most _ _ (free-⊕ q).0 (scan free (inl s) w)
+    scan₀ {a} {t} {q} s w = at_most _ _ (free_⊕ q).0 (scan free (inl s) w)

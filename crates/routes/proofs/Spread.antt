@@ -27,11 +27,11 @@ module _ (C : Costs) where
     pub stems_way : {v a : ℕ} → Stems σ v a → (c : Cost) → Has (σ.label v) c → starts a × Way C E a v c
     stems_way (here {v} d q) c h =
         let f = g.root v d q in
-        (f.0, Ways.over C (Sums.same-≡ C (sym f.1 ∙ has_one (σ.label v) d c (holds_has (σ.label v) d Start q) h)) (Ways.way C stay))
+        (f.0, Ways.over C (Sums.same_≡ C (sym f.1 ∙ has_one (σ.label v) d c (holds_has (σ.label v) d Start q) h)) (Ways.way C stay))
     stems_way (on {v} {u} d q k) c h =
         let f = g.from v u d q in
         let w = stems_way k f.0 f.2 in
-        (w.0, Ways.over C (Sums.same-≡ C (sym f.4 ∙ has_one (σ.label v) d c (holds_has (σ.label v) d (From u) q) h)) (Ways.join C w.1 (Ways.one C f.3)))
+        (w.0, Ways.over C (Sums.same_≡ C (sym f.4 ∙ has_one (σ.label v) d c (holds_has (σ.label v) d (From u) q) h)) (Ways.join C w.1 (Ways.one C f.3)))
 
     chain : (n v : ℕ) (c : Cost) → rank v < n → Has (σ.label v) c → (a : ℕ) × Stems σ v a
     chain zero v c h k = absurd (omega arith)
@@ -78,7 +78,7 @@ module _ (C : Costs) where
             T.c,
             Expand.settled_over C E T.mid x'.side T.u T.c T.expands T.u T.c now,
             f.0,
-            λ b d i q. ⊎_elim (λ i₀. absurd (old b d i₀ q)) (λ h. Sums.≼-≡ C h.1) (settled_back b d i),
+            λ b d i q. ⊎_elim (λ i₀. absurd (old b d i₀ q)) (λ h. Sums.≼_≡ C h.1) (settled_back b d i),
           ))
           (λ f. subst (FirstOk C E district x'.side j) (sym f.1) (λ b d i q. ⊎_elim (λ i₀. old b d i₀ q) (λ h. f.0 (subst (λ z. district z ≡ j) h.0 q)) (settled_back b d i)))
           (T.firsts.fresh j e))

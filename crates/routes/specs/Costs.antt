@@ -19,15 +19,15 @@ pub record Costs : Type 1 where
   -- the order
   pub ≼_refl : (a : Cost) → a ≼ a
   pub ≼_trans : (a b c : Cost) → a ≼ b → b ≼ c → a ≼ c
-  pub ≼-total : (a b : Cost) → (a ≼ b) ⊎ (b ≼ a)
+  pub ≼_total : (a b : Cost) → (a ≼ b) ⊎ (b ≼ a)
   -- the sum
-  pub ⊕-assoc : (a b c : Cost) → EachWay ◌≼◌ ((a ⊕ b) ⊕ c) (a ⊕ (b ⊕ c))
-  pub ⊕-comm : (a b : Cost) → EachWay ◌≼◌ (a ⊕ b) (b ⊕ a)
-  pub free-⊕ : (a : Cost) → EachWay ◌≼◌ (free ⊕ a) a
-  pub ⊕-more : (a b : Cost) → a ≼ a ⊕ b
-  pub ⊕-mono : (a b c : Cost) → a ≼ b → a ⊕ c ≼ b ⊕ c
+  pub ⊕_assoc : (a b c : Cost) → EachWay ◌≼◌ ((a ⊕ b) ⊕ c) (a ⊕ (b ⊕ c))
+  pub ⊕_comm : (a b : Cost) → EachWay ◌≼◌ (a ⊕ b) (b ⊕ a)
+  pub free_⊕ : (a : Cost) → EachWay ◌≼◌ (free ⊕ a) a
+  pub ⊕_more : (a b : Cost) → a ≼ a ⊕ b
+  pub ⊕_mono : (a b c : Cost) → a ≼ b → a ⊕ c ≼ b ⊕ c
   -- blocked
-  pub ≼-blocked : (a : Cost) → a ≼ blocked
+  pub ≼_blocked : (a : Cost) → a ≼ blocked
   pub few : (roads : List Figures) → length roads ≤ 4096 → blocked ≼ total ◌⊕◌ free price roads → ⊥
 
 -- a and b stand for the same cost

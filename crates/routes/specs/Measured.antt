@@ -40,13 +40,13 @@ module _ {K T : Type 0} (thing : K → T) (leq : T → T → Bool) (order : Tota
     price = price;
     ≼_refl = λ a. order.refl_leq (thing a);
     ≼_trans = λ a b c. order.trans_leq (thing a) (thing b) (thing c);
-    ≼-total = one_of_both;
-    ⊕-assoc = λ a b c. both_at_most _ _ (laws.associative a b c);
-    ⊕-comm = λ a b. both_at_most _ _ (laws.commutative a b);
-    free-⊕ = λ a. both_at_most _ _ (laws.neutral a);
-    ⊕-more = laws.first_part;
-    ⊕-mono = laws.monotone;
-    ≼-blocked = laws.greatest;
+    ≼_total = one_of_both;
+    ⊕_assoc = λ a b c. both_at_most _ _ (laws.associative a b c);
+    ⊕_comm = λ a b. both_at_most _ _ (laws.commutative a b);
+    free_⊕ = λ a. both_at_most _ _ (laws.neutral a);
+    ⊕_more = laws.first_part;
+    ⊕_mono = laws.monotone;
+    ≼_blocked = laws.greatest;
     few = few_pass;
   }
 

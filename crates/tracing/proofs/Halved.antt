@@ -8,7 +8,7 @@ use Rattle.fringe.specs.declared.place.Place.{Place}
 use Rattle.routes.specs.Routes.{onto}
 use Rattle.routes.proofs.Distinct.{onto_length}
 use Rattle.tracing.specs.Listings.{numbers, Listed}
-use Rattle.tracing.proofs.Numbers.{numbers-++}
+use Rattle.tracing.proofs.Numbers.{numbers_++}
 
 -- the first list turned round, before the second
 onto_is : (l m : List ℕ) → onto l m ≡ onto l [] ++ m
@@ -18,7 +18,7 @@ onto_is (x ∷ l) m = onto_is l (x ∷ m) ∙ sym (append_assoc (onto l []) (x �
 numbers_turned : (q : List Place) → numbers (reverse q) ≡ onto (numbers q) []
 numbers_turned [] = refl
 numbers_turned (p ∷ q) =
-    ap numbers (reverse-cons p q) ∙ numbers-++ (reverse q) (p ∷ []) ∙ ap (λ z. z ++ (p.0 ∷ [])) (numbers_turned q) ∙ sym (onto_is (numbers q) (p.0 ∷ []))
+    ap numbers (reverse-cons p q) ∙ numbers_++ (reverse q) (p ∷ []) ∙ ap (λ z. z ++ (p.0 ∷ [])) (numbers_turned q) ∙ sym (onto_is (numbers q) (p.0 ∷ []))
 
 -- the first places of a list and what follows
 take_front : {A : Type 0} (k : ℕ) (a b : List A) → length a ≡ k → (c : ℕ) → take (k + c) (a ++ b) ≡ a ++ take c b
@@ -85,7 +85,7 @@ module _ (meet : ℕ) (rest others : List ℕ) (before : List Place) (met : ℕ)
   halves_listed = record {
     count_is = counted;
     first = ap numbers (take_front (met - 1) (take (met - 1) (turned ++ drop met traced)) ahead front_length count)
-        ∙ numbers-++ (take (met - 1) (turned ++ drop met traced)) (take count ahead) ∙ ap₂ (λ a b. a ++ b) front_is then.first ∙ sym (onto_is rest (meet ∷ others));
+        ∙ numbers_++ (take (met - 1) (turned ++ drop met traced)) (take count ahead) ∙ ap₂ (λ a b. a ++ b) front_is then.first ∙ sym (onto_is rest (meet ∷ others));
     rest = beyond;
   }
 

@@ -3,9 +3,9 @@ use Rattle.std.proofs.Common.{◌≡◌, suc, List, [], ◌∷◌, ◌++◌, len
 use Rattle.fringe.specs.declared.place.Place.{Place}
 use Rattle.tracing.specs.Listings.{numbers}
 
-pub numbers-++ : (a b : List Place) → numbers (a ++ b) ≡ numbers a ++ numbers b
-numbers-++ [] b = refl
-numbers-++ (p ∷ a) b = ap (λ l. p.0 ∷ l) (numbers-++ a b)
+pub numbers_++ : (a b : List Place) → numbers (a ++ b) ≡ numbers a ++ numbers b
+numbers_++ [] b = refl
+numbers_++ (p ∷ a) b = ap (λ l. p.0 ∷ l) (numbers_++ a b)
 
 pub numbers_length : (a : List Place) → length (numbers a) ≡ length a
 numbers_length [] = refl

@@ -12,7 +12,7 @@ use Rattle.routes.specs.Labels.{label_view, labels_view}
 use Rattle.routes.specs.Search.{trail}
 use Rattle.routes.proofs.LabelViews.{view_at}
 use Rattle.tracing.specs.Listings.{numbers, origin_in, Listed, Short}
-use Rattle.tracing.proofs.Numbers.{numbers-++, numbers_length}
+use Rattle.tracing.proofs.Numbers.{numbers_++, numbers_length}
 
 -- nothing in a list of length 0
 none_in : (l : List ℕ) → length l ≤ 0 → l ≡ []
@@ -103,7 +103,7 @@ module _ {K : Type 0} (f : ℕ → ℕ) (labels : List (Label K)) (n v : ℕ) wh
       list' = set list i p
 
       taken_more : numbers (take (i + 1) list') ≡ numbers (take i list) ++ (at ∷ [])
-      taken_more = ap numbers (take_more_set list i p l) ∙ numbers-++ (take i list) (p ∷ []) ∙ ap (λ k. numbers (take i list) ++ (k ∷ [])) p_is
+      taken_more = ap numbers (take_more_set list i p l) ∙ numbers_++ (take i list) (p ∷ []) ∙ ap (λ k. numbers (take i list) ++ (k ∷ [])) p_is
 
       kept_more : drop (i + 1) list' ≡ drop (i + 1) list₀
       kept_more = drop-set-lt (i + 1) list i p (omega arith) ∙ sym (drop-drop 1 i list) ∙ ap (drop 1) t.kept ∙ drop-drop 1 i list₀
