@@ -282,16 +282,16 @@ module _ (f : Figures) (range : InRange f) where
   -- ## Lists of roads
 
   -- what g gives in the four directions are the numbers of the roads that touch p with an end
-  record Sides (end_of_lem : Road → Place) (p : ℕ) (g : Direction → Option ℕ) : Type 0 where
+  record Sides (end_of : Road → Place) (p : ℕ) (g : Direction → Option ℕ) : Type 0 where
     pub tell : ℕ → ℕ
     pub told : (d : Direction) (x : ℕ) → g d ≡ Some x → tell x ≡ direction_number d
-    pub side : (d : Direction) (r : ℕ) → g d ≡ Some r → Touches (grid_model f) end_of_lem p r
-    pub way : (r : ℕ) (x : Road) → grid_road f r ≡ Some x → (end_of_lem x).0 ≡ p → Direction
-    pub finds : (r : ℕ) (x : Road) (e : grid_road f r ≡ Some x) (t : (end_of_lem x).0 ≡ p) → g (way r x e t) ≡ Some r
+    pub side : (d : Direction) (r : ℕ) → g d ≡ Some r → Touches (grid_model f) end_of p r
+    pub way : (r : ℕ) (x : Road) → grid_road f r ≡ Some x → (end_of x).0 ≡ p → Direction
+    pub finds : (r : ℕ) (x : Road) (e : grid_road f r ≡ Some x) (t : (end_of x).0 ≡ p) → g (way r x e t) ≡ Some r
 
-  sides_listed : (end_of_lem : Road → Place) (p : ℕ) (g : Direction → Option ℕ) → Sides end_of_lem p g →
-      Lists (grid_model f) end_of_lem p (present (map g directions))
-  sides_listed end_of_lem p g s = record {
+  sides_listed : (end_of : Road → Place) (p : ℕ) (g : Direction → Option ℕ) → Sides end_of p g →
+      Lists (grid_model f) end_of p (present (map g directions))
+  sides_listed end_of p g s = record {
     only = λ j l. let h = present_held (map g directions) j l in let t = toward g h.at _ h.holds in s.side t.way _ t.gives;
     once = present_once (map g directions) (apart g s.tell s.told);
     all = λ r x e t. present_stands (map g directions) (direction_number (s.way r x e t)) r (at_direction g (s.way r x e t) ∙ s.finds r x e t);

@@ -25,9 +25,9 @@ was None f y e = let z : ◌≡◌ {A = ℕ} 0 1 = cc in let no' : ⊥ = omega a
 
 module _ (f : ℕ → Road → Road) (m : MapModel) (keeps : (r : ℕ) (x : Road) → Keeps x (f r x)) where
   -- an end of a road that is read is the end of the road that was there
-  same_place : (end_of_lem : Road → Place) → ((r : ℕ) (x : Road) → end_of_lem (f r x) ≡ end_of_lem x) →
-      (r : ℕ) (y : Road) (w : Was (m.road r) (f r) y) → end_of_lem y ≡ end_of_lem w.road
-  same_place end_of_lem same r y w = ap end_of_lem (sym w.read) ∙ same r w.road
+  same_place : (end_of : Road → Place) → ((r : ℕ) (x : Road) → end_of (f r x) ≡ end_of x) →
+      (r : ℕ) (y : Road) (w : Was (m.road r) (f r) y) → end_of y ≡ end_of w.road
+  same_place end_of same r y w = ap end_of (sym w.read) ∙ same r w.road
 
   fits : (r : ℕ) (x : Road) → RoadFits m r x → RoadFits (through f m) r (f r x)
   fits r x h = record {
@@ -39,9 +39,9 @@ module _ (f : ℕ → Road → Road) (m : MapModel) (keeps : (r : ℕ) (x : Road
     mild = rw (keeps r x).same_steepness h.mild;
   }
 
-  lists : (end_of_lem : Road → Place) → ((r : ℕ) (x : Road) → end_of_lem (f r x) ≡ end_of_lem x) →
-      (p : ℕ) (l : List ℕ) → Lists m end_of_lem p l → Lists (through f m) end_of_lem p l
-  lists end_of_lem same p l h = record {
+  lists : (end_of : Road → Place) → ((r : ℕ) (x : Road) → end_of (f r x) ≡ end_of x) →
+      (p : ℕ) (l : List ℕ) → Lists m end_of p l → Lists (through f m) end_of p l
+  lists end_of same p l h = record {
     only = λ j lt. let t = h.only j lt in record {
       is = f (get_or l j 0) t.is;
       there = ap (option_map (f (get_or l j 0))) t.there;
@@ -49,7 +49,7 @@ module _ (f : ℕ → Road → Road) (m : MapModel) (keeps : (r : ℕ) (x : Road
     };
     once = h.once;
     all = λ r y e at. let w = was (m.road r) (f r) y e in
-        h.all r w.road w.there (ap (λ (q : Place). q.0) (sym (same_place end_of_lem same r y w)) ∙ at);
+        h.all r w.road w.there (ap (λ (q : Place). q.0) (sym (same_place end_of same r y w)) ∙ at);
   }
 
   pub through_well : WellFormed m → WellFormed (through f m)

@@ -35,11 +35,11 @@ pub record RoadFits (m : MapModel) (r : ℕ) (x : Road) : Type 0 where
   pub short : x.seconds ≤ 60000
   pub mild : x.steepness ≤ 1000
 
--- The number r has a road, and the end of it that `end_of_lem` picks is the place p.
-pub record Touches (m : MapModel) (end_of_lem : Road → Place) (p r : ℕ) : Type 0 where
+-- The number r has a road, and the end of it that `end_of` picks is the place p.
+pub record Touches (m : MapModel) (end_of : Road → Place) (p r : ℕ) : Type 0 where
   pub is : Road
   pub there : m.road r ≡ Some is
-  pub touches : (end_of_lem is).0 ≡ p
+  pub touches : (end_of is).0 ≡ p
 
 -- The number r stands in the list.
 pub record Stands (l : List ℕ) (r : ℕ) : Type 0 where
@@ -48,10 +48,10 @@ pub record Stands (l : List ℕ) (r : ℕ) : Type 0 where
   pub same : slice_index_or l index 0 ≡ r
 
 -- The list names each road that touches p with that end exactly once, and nothing else.
-pub record Lists (m : MapModel) (end_of_lem : Road → Place) (p : ℕ) (l : List ℕ) : Type 0 where
-  pub only : (j : ℕ) → j < length l → Touches m end_of_lem p (slice_index l j)
+pub record Lists (m : MapModel) (end_of : Road → Place) (p : ℕ) (l : List ℕ) : Type 0 where
+  pub only : (j : ℕ) → j < length l → Touches m end_of p (slice_index l j)
   pub once : (i j : ℕ) → i < length l → j < length l → slice_index l i ≡ slice_index l j → i ≡ j
-  pub all : (r : ℕ) (x : Road) → m.road r ≡ Some x → (end_of_lem x).0 ≡ p → Stands l r
+  pub all : (r : ℕ) (x : Road) → m.road r ≡ Some x → (end_of x).0 ≡ p → Stands l r
 
 -- The rules that every map keeps.
 pub record WellFormed (m : MapModel) : Type 0 where

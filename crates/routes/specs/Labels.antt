@@ -11,8 +11,8 @@ use Rattle.routes.specs.States.{Origin, Start, From, Label, Blank, Reached, Sett
 
 -- The place at one end of a road, and 0 where there is no road.
 abbrev pub end_in : (Road → Place) → Option Road → ℕ
-end_in end_of_lem None = 0
-end_in end_of_lem (Some x) = (end_of_lem x).0
+end_in end_of None = 0
+end_in end_of (Some x) = (end_of x).0
 
 -- The place that the road of a number starts at, and the one that it ends at.
 abbrev pub start_at : MapModel → ℕ → ℕ
@@ -21,11 +21,11 @@ start_at m r = end_in (λ x. x.start) (m.road r)
 abbrev pub end_at : MapModel → ℕ → ℕ
 end_at m r = end_in (λ x. x.end) (m.road r)
 
--- A road stands for the place that it comes from: forward its start, backward its end. `start_of_lem` says which that is.
-module _ (start_of_lem : ℕ → ℕ) where
+-- A road stands for the place that it comes from: forward its start, backward its end. `start_of` says which that is.
+module _ (start_of : ℕ → ℕ) where
   abbrev pub origin_view : Source → Origin
   origin_view source.Start = Start
-  origin_view (source.Road r) = From (start_of_lem r.0)
+  origin_view (source.Road r) = From (start_of r.0)
 
   abbrev pub label_view : {K : Type 0} → Mark K → Label K
   label_view mark.Blank = Blank

@@ -52,24 +52,24 @@ alone r s (Some x) (Some y) = not (eqb x.start.0 y.start.0 && eqb x.end.0 y.end.
 
 -- the road is there and touches the place p
 abbrev touches : (Road → Place) → ℕ → Option Road → Bool
-touches end_of_lem p None = false
-touches end_of_lem p (Some x) = eqb (end_of_lem x).0 p
+touches end_of p None = false
+touches end_of p (Some x) = eqb (end_of x).0 p
 
 -- a road that touches the place p stands in the list
 abbrev listed : (Road → Place) → ℕ → List ℕ → ℕ → Option Road → Bool
-listed end_of_lem p l r None = true
-listed end_of_lem p l r (Some x) = not (eqb (end_of_lem x).0 p) || stands_at l r (length l)
+listed end_of p l r None = true
+listed end_of p l r (Some x) = not (eqb (end_of x).0 p) || stands_at l r (length l)
 
 -- the list of a place: it names only roads that touch the place, each once, and all of them
-module _ (m : MapModel) (end_of_lem : Road → Place) (p : ℕ) (l : List ℕ) where
+module _ (m : MapModel) (end_of : Road → Place) (p : ℕ) (l : List ℕ) where
   abbrev only : ℕ → Bool
-  only j = touches end_of_lem p (m.road (get_or l j 0))
+  only j = touches end_of p (m.road (get_or l j 0))
 
   abbrev once : ℕ → ℕ → Bool
   once i j = not (eqb (get_or l i 0) (get_or l j 0)) || eqb i j
 
   abbrev all_listed : ℕ → Bool
-  all_listed r = listed end_of_lem p l r (m.road r)
+  all_listed r = listed end_of p l r (m.road r)
 
   abbrev lists : Bool
   lists = all_below (length l) only && (all_below (length l) (λ i. all_below (length l) (once i)) && all_below m.roads all_listed)
@@ -153,21 +153,21 @@ module _ (m : MapModel) (bounded : (r : ℕ) (x : Road) → m.road r ≡ Some x 
       and_so true e f = f
       and_so false e f = e
 
-  module _ (end_of_lem : Road → Place) (p : ℕ) (l : List ℕ) (t : lists m end_of_lem p l ≡ true) where
-    touches_so : (r : ℕ) (o : Option Road) → m.road r ≡ o → touches end_of_lem p o ≡ true → Touches m end_of_lem p r
+  module _ (end_of : Road → Place) (p : ℕ) (l : List ℕ) (t : lists m end_of p l ≡ true) where
+    touches_so : (r : ℕ) (o : Option Road) → m.road r ≡ o → touches end_of p o ≡ true → Touches m end_of p r
     touches_so r None e u = absurd (false≢true u)
     touches_so r (Some x) e u = record { is = x; there = e; touches = eqb-true _ _ u }
 
-    lists_so : Lists m end_of_lem p l
+    lists_so : Lists m end_of p l
     lists_so =
-        let a = and_parts (all_below (length l) (only m end_of_lem p l)) (all_below (length l) (λ i. all_below (length l) (once m end_of_lem p l i)) && all_below m.roads (all_listed m end_of_lem p l)) t in
-        let b = and_parts (all_below (length l) (λ i. all_below (length l) (once m end_of_lem p l i))) (all_below m.roads (all_listed m end_of_lem p l)) a.1 in
+        let a = and_parts (all_below (length l) (only m end_of p l)) (all_below (length l) (λ i. all_below (length l) (once m end_of p l i)) && all_below m.roads (all_listed m end_of p l)) t in
+        let b = and_parts (all_below (length l) (λ i. all_below (length l) (once m end_of p l i))) (all_below m.roads (all_listed m end_of p l)) a.1 in
         record {
-          only = λ j h. touches_so (get_or l j 0) (m.road (get_or l j 0)) refl (every (length l) (only m end_of_lem p l) a.0 j h);
+          only = λ j h. touches_so (get_or l j 0) (m.road (get_or l j 0)) refl (every (length l) (only m end_of p l) a.0 j h);
           once = λ i j h k s. eqb-true _ _
-              (implied (eqb (get_or l i 0) (get_or l j 0)) (eqb i j) (every (length l) (once m end_of_lem p l i) (every (length l) (λ i. all_below (length l) (once m end_of_lem p l i)) b.0 i h) j k) (eq-eqb _ _ s));
+              (implied (eqb (get_or l i 0) (get_or l j 0)) (eqb i j) (every (length l) (once m end_of p l i) (every (length l) (λ i. all_below (length l) (once m end_of p l i)) b.0 i h) j k) (eq-eqb _ _ s));
           all = λ r x e s. stands l r (length l) (omega arith)
-              (implied (eqb (end_of_lem x).0 p) (stands_at l r (length l)) (subst (λ z. listed end_of_lem p l r z ≡ true) e (every m.roads (all_listed m end_of_lem p l) b.1 r (bounded r x e))) (eq-eqb _ _ s));
+              (implied (eqb (end_of x).0 p) (stands_at l r (length l)) (subst (λ z. listed end_of p l r z ≡ true) e (every m.roads (all_listed m end_of p l) b.1 r (bounded r x e))) (eq-eqb _ _ s));
         }
 
   -- a map that passes it keeps the rules

@@ -14,11 +14,11 @@ road start end seconds steepness = record { start = record { 0 = start }; end = 
 abbrev pub plain : (start end seconds : ℕ) → Road
 plain start end seconds = road start end seconds seconds
 
--- The numbers of the roads that touch the place p with the end that `end_of_lem` picks, in rising order. The first road of the
+-- The numbers of the roads that touch the place p with the end that `end_of` picks, in rising order. The first road of the
 -- list has the number r.
 abbrev pub touching : (Road → Place) → ℕ → ℕ → List Road → List ℕ
-touching end_of_lem p r [] = []
-touching end_of_lem p r (x ∷ xs) = elim ((end_of_lem x).0 == p) [ true ↦ r ∷ touching end_of_lem p (suc r) xs | false ↦ touching end_of_lem p (suc r) xs ]
+touching end_of p r [] = []
+touching end_of p r (x ∷ xs) = elim ((end_of x).0 == p) [ true ↦ r ∷ touching end_of p (suc r) xs | false ↦ touching end_of p (suc r) xs ]
 
 -- How many districts there are: one more than the greatest number of one.
 abbrev pub district_count : List ℕ → ℕ

@@ -18,9 +18,9 @@ pub record Beside {K : Type 0} (back_of : ℕ → ℕ) (theirs : List (Label K))
   pub expansions : x.expansions ≡ found.expanded
   pub prunings : x.prunings ≡ found.pruned
 
--- The whole state: `start_of_lem` gives the place that a road stands for on the side whose turn it is.
-pub record Shown {K : Type 0} (start_of_lem back_of : ℕ → ℕ) (mine theirs : List (Label K)) (found : Findings K) (x : Both K) : Type 0 where
-  pub labels : x.fore.labels ≡ labels_view start_of_lem mine
+-- The whole state: `start_of` gives the place that a road stands for on the side whose turn it is.
+pub record Shown {K : Type 0} (start_of back_of : ℕ → ℕ) (mine theirs : List (Label K)) (found : Findings K) (x : Both K) : Type 0 where
+  pub labels : x.fore.labels ≡ labels_view start_of mine
   pub beside : Beside back_of theirs found x
 
 -- The counts are far from what a number of code can hold.

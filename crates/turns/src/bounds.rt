@@ -18,7 +18,7 @@ pub fn lesser<M: Measure + Copy>(a: M, b: M) -> M
 /// The upper bound where one side paid `cost` up to the end of a stored pair, whose label on the other side is given: it
 /// falls to the sum, if that side settled it and the sum is less.
 pub fn upper_through<M: Measure + Copy>(label: Label<M>, cost: M, upper: M) -> M
-    ensures { (start_of_lem : ℕ → ℕ) → result ≡ through (ops_of M.Order.thing M.Order.leq M.Measure.plus M.Measure.nil M.Measure.top) (label_view start_of_lem label) cost upper }
+    ensures { (start_of : ℕ → ℕ) → result ≡ through (ops_of M.Order.thing M.Order.leq M.Measure.plus M.Measure.nil M.Measure.top) (label_view start_of label) cost upper }
 {
     match label {
         Label::Blank => upper,
@@ -29,7 +29,7 @@ pub fn upper_through<M: Measure + Copy>(label: Label<M>, cost: M, upper: M) -> M
 
 /// Whether the place of a label is not settled.
 fn is_unsettled<C: Copy>(label: Label<C>) -> bool
-    ensures { (start_of_lem : ℕ → ℕ) → result ≡ unsettled (label_view start_of_lem label) }
+    ensures { (start_of : ℕ → ℕ) → result ≡ unsettled (label_view start_of label) }
 {
     match label {
         Label::Blank => true,
@@ -56,7 +56,7 @@ pub fn is_too_dear<M: Measure + Copy>(
     cost: M,
     upper: M,
 ) -> bool
-    ensures { (start_of_lem : ℕ → ℕ) → result ≡ too_dear (ops_of M.Order.thing M.Order.leq M.Measure.plus M.Measure.nil M.Measure.top) (maybe own) (maybe other) (label_view start_of_lem label) cost upper }
+    ensures { (start_of : ℕ → ℕ) → result ≡ too_dear (ops_of M.Order.thing M.Order.leq M.Measure.plus M.Measure.nil M.Measure.top) (maybe own) (maybe other) (label_view start_of label) cost upper }
 {
     match own {
         Some(_) => match other {
