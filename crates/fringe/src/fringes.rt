@@ -10,7 +10,7 @@ use crate::place::Place;
 #[derive(Clone, Copy, PartialEq, Eq, Debug)]
 pub enum Refusal {
     /// The place does not fit: its number is not below the capacity.
-    NoRoom,
+    NoRoom = 24,
 }
 
 impl Refusal {
@@ -18,9 +18,7 @@ impl Refusal {
     pub fn number(self) -> u8
         ensures { result ≡ number_of self }
     {
-        match self {
-            Refusal::NoRoom => 24,
-        }
+        self as u8
     }
 }
 
