@@ -1,3 +1,4 @@
+pub mod Leaving
 pub mod Grids
 pub mod Through
 pub mod Turned

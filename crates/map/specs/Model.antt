@@ -1,5 +1,5 @@
 -- What a map means to its reader, and the rules that it keeps.
-use Rattle.std.specs.Prelude.{◌≡◌, ℕ, ◌<◌, ◌≤◌, cond, List, length, Some, None, Option, nat_lt, slice_index, slice_index_or}
+use Rattle.std.specs.Prelude.{◌≡◌, ℕ, ◌<◌, ◌≤◌, Bool, false, cond, List, [], length, Some, None, Option, ◌==◌, nat_lt, slice_index, slice_index_or}
 use Rattle.fringe.specs.declared.place.Place.{Place}
 use Rattle.map.specs.declared.numbers.District.{District}
 use Rattle.map.specs.declared.numbers.RoadId.{RoadId}
@@ -68,6 +68,14 @@ pub record WellFormed (m : MapModel) : Type 0 where
       x.start.0 ≡ y.start.0 → x.end.0 ≡ y.end.0 → r ≡ s
   pub departs : (p : ℕ) → p < m.places → Lists m (λ x. x.start) p (m.departures p)
   pub arrives : (p : ℕ) → p < m.places → Lists m (λ x. x.end) p (m.arrivals p)
+
+-- The numbers of the roads that leave a place, in order; none where there is no such place.
+abbrev pub leaving : MapModel → ℕ → List ℕ
+leaving m u = cond (nat_lt u m.places) (m.departures u) []
+
+-- Whether the place p is one of the district d. A place that the map does not have is of none.
+abbrev pub is_in : MapModel → ℕ → ℕ → Bool
+is_in m d p = cond (nat_lt p m.places) (m.district p == d) false
 
 -- The district of a place, absent where there is no such place.
 abbrev pub district_at : MapModel → ℕ → Option District

@@ -1,7 +1,8 @@
 //! What it is to be a map.
 ghost use Rattle.std.specs.Prelude.{◌≡◌};
-ghost use Rattle.map.specs.Model.{MapModel, WellFormed, district_at, listed_at};
+ghost use Rattle.map.specs.Model.{MapModel, WellFormed, district_at, is_in, leaving, listed_at};
 
+use crate::departures::Departures;
 use crate::numbers::{District, RoadId};
 use crate::roads::Road;
 use fringe::place::Place;
@@ -42,4 +43,22 @@ pub trait Map {
     /// The j-th road that ends at a place, counted from 0.
     fn arrival(&self, place: Place, j: usize) -> Option<RoadId>
         ensures { result ≡ listed_at (model self.now).places (model self.now).arrivals place.0 j };
+
+    /// Whether a place is one of the district.
+    final fn is_in(&self, district: District, place: Place) -> bool
+        ensures { result ≡ is_in (model self.now) district.0 place.0 }
+    {
+        self.district(place) == Some(district)
+    }
+
+    /// The roads that leave a place, in the order of its departures.
+    final fn departures(&self, place: Place) -> Departures<Self>
+        ensures { result ≡ leaving (model self.now) place.0 }
+    {
+        Departures {
+            map: self,
+            place,
+            next: 0,
+        }
+    }
 }
