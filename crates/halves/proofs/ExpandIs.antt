@@ -7,7 +7,7 @@ use Rattle.map.specs.declared.numbers.RoadId.{RoadId}
 use Rattle.map.specs.declared.roads.Road.{Road}
 use Rattle.map.specs.declared.roads.Mark.{Mark}
 use Rattle.map.specs.declared.roads.Mark.TheVariants.{Open, Closed}
-use Rattle.map.specs.Model.{MapModel, WellFormed}
+use Rattle.map.specs.Model.{MapModel, WellFormed, leaving}
 use Rattle.measure.specs.Costs.{CostLaws}
 use Rattle.routes.specs.declared.labels.Origin.TheVariants.{Road as by_road}
 use Rattle.routes.specs.declared.labels.Label.{Label}
@@ -21,7 +21,7 @@ use Rattle.routes.specs.Asking.{Table, given, is_open, in_front, row_of}
 use Rattle.routes.proofs.Along as along_rows
 use Rattle.routes.proofs.LabelViews.{start_at_is, view_length, view_at, view_set}
 use Rattle.halves.specs.Labels.{spot, offered, offered_at}
-use Rattle.halves.specs.Expansions.{leaving, driven, driven_along}
+use Rattle.halves.specs.Expansions.{driven, driven_along}
 
 pub leaving_is : (m : MapModel) (u : ℕ) → u < m.places → leaving m u ≡ m.departures u
 leaving_is m u l = cond-true (ltb u m.places) (m.departures u) [] (lt-ltb u m.places l)

@@ -1,10 +1,6 @@
-pub mod Filled
 pub mod Alikes
 pub mod Offers
 pub mod Settled
-pub mod Departures
-pub mod Spreads
-pub mod Bests
 pub mod ExpandIs
 pub mod MeetingIs
 pub mod NearestIs

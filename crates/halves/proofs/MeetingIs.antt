@@ -7,7 +7,7 @@ use Rattle.fringe.specs.declared.place.Place.{Place}
 use Rattle.map.specs.declared.roads.Road.{Road}
 use Rattle.map.specs.declared.roads.Mark.{Mark}
 use Rattle.map.specs.declared.roads.Mark.TheVariants.{Open, Closed}
-use Rattle.map.specs.Model.{MapModel, WellFormed}
+use Rattle.map.specs.Model.{MapModel, WellFormed, leaving}
 use Rattle.measure.specs.Costs.{CostLaws}
 use Rattle.routes.specs.declared.labels.Label.{Label}
 use Rattle.routes.specs.declared.labels.Label.TheVariants.{Blank, Reached, Settled}
@@ -20,8 +20,8 @@ use Rattle.routes.specs.Asking.{Table, given, is_open, in_front, row_of}
 use Rattle.routes.proofs.Along as along_rows
 use Rattle.routes.proofs.LabelViews.{view_at}
 use Rattle.halves.specs.Labels.{spot}
-use Rattle.halves.specs.Expansions.{leaving}
-use Rattle.halves.specs.Meetings.{paid, joined, sum_at, nearer, met_over, best_along}
+use Rattle.halves.specs.Meetings.{joined, sum_at, nearer, met_over, best_along}
+use Rattle.routes.specs.Parts.{paid}
 use Rattle.halves.specs.Views.{meeting_view}
 use Rattle.halves.proofs.ExpandIs.{leaving_is}
 

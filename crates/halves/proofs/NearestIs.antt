@@ -15,7 +15,8 @@ use Rattle.routes.specs.Search as search_spec
 use Rattle.routes.proofs.Linked as linked
 use Rattle.routes.proofs.Parts as parts
 use Rattle.routes.proofs.LabelViews.{view_length, view_at, view_set}
-use Rattle.halves.specs.Labels.{spot, waiting}
+use Rattle.halves.specs.Labels.{spot}
+use Rattle.routes.specs.Parts.{waiting}
 use Rattle.halves.specs.Settling.{Settles, Idle}
 use Rattle.halves.proofs.Alikes.{never}
 

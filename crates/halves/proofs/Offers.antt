@@ -13,7 +13,8 @@ use Rattle.routes.specs.declared.labels.Origin.{Origin}
 use Rattle.routes.specs.declared.labels.Origin.TheVariants.{Road as by_road}
 use Rattle.routes.specs.declared.labels.Label.{Label}
 use Rattle.routes.specs.declared.labels.Label.TheVariants.{Blank, Reached, Settled}
-use Rattle.halves.specs.Labels.{spot, improves, waiting, offered_at}
+use Rattle.halves.specs.Labels.{spot, improves, offered_at}
+use Rattle.routes.specs.Parts.{waiting}
 use Rattle.halves.specs.Agreement.{Agree}
 use Rattle.halves.proofs.Alikes.{lowered_like}
 

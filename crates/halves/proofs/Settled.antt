@@ -8,7 +8,8 @@ use Rattle.fringe.specs.declared.place.Place.{Place}
 use Rattle.fringe.specs.Fringes.{Meaning, Empty, First, Gone}
 use Rattle.routes.specs.declared.labels.Label.{Label}
 use Rattle.routes.specs.declared.labels.Label.TheVariants.{Blank, Reached, Settled}
-use Rattle.halves.specs.Labels.{spot, waiting, finished, settled_at, paired}
+use Rattle.halves.specs.Labels.{spot, settled_at, paired}
+use Rattle.routes.specs.Parts.{waiting, finished}
 use Rattle.halves.specs.Agreement.{Agree}
 use Rattle.halves.specs.Settling.{Idle, Settling}
 use Rattle.halves.proofs.Alikes.{never, same_some, Like, like, like_none}

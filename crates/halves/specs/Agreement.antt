@@ -2,7 +2,8 @@
 use Rattle.std.specs.Prelude.{◌≡◌, ℕ, ◌≤◌, Bool, List, length}
 use Rattle.fringe.specs.Fringes.{Meaning, Alike}
 use Rattle.routes.specs.declared.labels.Label.{Label}
-use Rattle.halves.specs.Labels.{spot, waiting}
+use Rattle.halves.specs.Labels.{spot}
+use Rattle.routes.specs.Parts.{waiting}
 
 -- The fringe is in order, takes every place of the row, and holds the cost of each place that is reached, up to what
 -- costs stand for, and nothing else: past the end of the row all labels are blank.

@@ -1,15 +1,11 @@
 -- What it is to relax every open road out of a place.
-use Rattle.std.specs.Prelude.{ℕ, Bool, cond, List, [], ◌∷◌, Some, None, Option, nat_lt}
+use Rattle.std.specs.Prelude.{ℕ, Bool, cond, List, [], ◌∷◌, Some, None, Option}
 use Rattle.map.specs.declared.numbers.RoadId.{RoadId}
 use Rattle.map.specs.declared.roads.Road.{Road}
 use Rattle.map.specs.Model.{MapModel}
 use Rattle.routes.specs.declared.labels.Label.{Label}
 use Rattle.routes.specs.Asking.{is_open}
 use Rattle.halves.specs.Labels.{offered_at}
-
--- The numbers of the roads that leave a place, in order; none where there is no such place.
-abbrev pub leaving : MapModel → ℕ → List ℕ
-leaving m u = cond (nat_lt u m.places) (m.departures u) []
 
 module _ {C T : Type 0} (thing : C → T) (leq : T → T → Bool) (plus : C → C → C) (price : ℕ → ℕ → C) where
   -- The row once a road was relaxed from where c was paid: its end was offered the sum, if there is a road and it is open.

@@ -5,23 +5,12 @@ use Rattle.map.specs.declared.numbers.RoadId.{RoadId}
 use Rattle.routes.specs.declared.labels.Origin.TheVariants.{Road as by_road}
 use Rattle.routes.specs.declared.labels.Label.{Label}
 use Rattle.routes.specs.declared.labels.Label.TheVariants.{Blank, Reached, Settled}
+use Rattle.routes.specs.Parts.{finished}
 
 module _ {C : Type 0} where
   -- The label of a place: past the end of the row all are blank.
   abbrev pub spot : List (Label C) → ℕ → Label C
   spot labels v = slice_index_or labels v Blank
-
-  -- The cost of a place that is reached and waits to be settled.
-  abbrev pub waiting : Label C → Option C
-  waiting Blank = None
-  waiting (Reached c o) = Some c
-  waiting (Settled c o) = None
-
-  -- The label once its place is settled.
-  abbrev pub finished : Label C → Label C
-  finished Blank = Blank
-  finished (Reached c o) = Settled c o
-  finished (Settled c o) = Settled c o
 
   -- The row once the place v is settled.
   abbrev pub settled_at : ℕ → List (Label C) → List (Label C)

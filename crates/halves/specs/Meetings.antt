@@ -4,17 +4,11 @@ use Rattle.fringe.specs.declared.place.Place.{Place}
 use Rattle.map.specs.declared.roads.Road.{Road}
 use Rattle.map.specs.Model.{MapModel}
 use Rattle.routes.specs.declared.labels.Label.{Label}
-use Rattle.routes.specs.declared.labels.Label.TheVariants.{Blank, Reached, Settled}
+use Rattle.routes.specs.Parts.{paid}
 use Rattle.routes.specs.Asking.{is_open}
 use Rattle.halves.specs.Labels.{spot}
 
 module _ {C : Type 0} where
-  -- The cost in a label.
-  abbrev pub paid : Label C → Option C
-  paid Blank = None
-  paid (Reached c o) = Some c
-  paid (Settled c o) = Some c
-
   -- The sum of two costs, if both are there.
   abbrev pub joined : (C → C → C) → Option C → Option C → Option C
   joined plus None b = None

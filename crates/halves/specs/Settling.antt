@@ -4,7 +4,8 @@ use Rattle.fringe.specs.declared.place.Place.{Place}
 use Rattle.routes.specs.declared.labels.Origin.{Origin}
 use Rattle.routes.specs.declared.labels.Label.{Label}
 use Rattle.routes.specs.declared.labels.Label.TheVariants.{Reached, Settled}
-use Rattle.halves.specs.Labels.{spot, waiting}
+use Rattle.halves.specs.Labels.{spot}
+use Rattle.routes.specs.Parts.{waiting}
 
 module _ {C T : Type 0} (thing : C → T) (leq : T → T → Bool) where
   -- The place p, reached at the least cost c, and of equals the lowest, is settled with its cost and origin.

@@ -32,7 +32,7 @@ pub fn begin<C: Order + Copy, F: Fringe<C>>(
 {
     blank(labels);
     fringe.clear();
-    let i = usize::from(start.0);
+    let i = usize::from(start);
     if i < labels.len() {
         labels[i] = start_label(zero);
         let _ = fringe.put(start, zero);

@@ -1,7 +1,8 @@
 //! The open roads out of a place relaxed.
 ghost use Rattle.std.specs.Prelude.{◌≡◌, Some};
 ghost use Rattle.halves.specs.Agreement.{Agree, Steady};
-ghost use Rattle.halves.specs.Expansions.{driven, driven_along, leaving};
+ghost use Rattle.halves.specs.Expansions.{driven, driven_along};
+ghost use Rattle.map.specs.Model.{leaving};
 
 use crate::relaxing::relax;
 use fringe::fringes::Fringe;
@@ -45,11 +46,9 @@ pub fn expand<M: Measure + Copy, G: Map, F: Fringe<M>>(
     ensures agree { Agree M.Order.thing M.Order.leq (F.Fringe.well fringe.old) (F.Fringe.meaning fringe.old) labels.old → Agree M.Order.thing M.Order.leq (F.Fringe.well fringe.new) (F.Fringe.meaning fringe.new) labels.new }
     ensures steady { F.Fringe.well fringe.old → Steady (F.Fringe.well fringe.new) (F.Fringe.meaning fringe.old) (F.Fringe.meaning fringe.new) }
 {
-    let mut j: usize = 0;
-    while let Some(number) = map.departure(u, j) {
+    for number in map.departures(u) {
         if let Some(road) = map.road(number) {
             drive(labels, fringe, cost, number, road);
         }
-        j += 1;
     }
 }

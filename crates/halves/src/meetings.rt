@@ -1,7 +1,8 @@
 //! Where two sides meet.
 ghost use Rattle.std.specs.Prelude.{◌≡◌, Some, None};
-ghost use Rattle.halves.specs.Expansions.{leaving};
-ghost use Rattle.halves.specs.Meetings.{paid, joined, sum_at, nearer, met_over, best_along};
+ghost use Rattle.map.specs.Model.{leaving};
+ghost use Rattle.halves.specs.Meetings.{joined, sum_at, nearer, met_over, best_along};
+ghost use Rattle.routes.specs.Parts.{paid};
 
 use crate::rows::label_at;
 use fringe::order::Order;
@@ -11,28 +12,13 @@ use map::roads::{Mark, Road};
 use measure::measures::Measure;
 use routes::labels::Label;
 
-/// The cost in a label.
-fn cost_in<C: Copy>(label: Label<C>) -> Option<C>
-    ensures { result ≡ paid label }
-{
-    match label {
-        Label::Blank => None,
-        Label::Reached(cost, _) => Some(cost),
-        Label::Settled(cost, _) => Some(cost),
-    }
-}
-
 /// What two labels of a place cost together.
 fn together<M: Measure + Copy>(own: Label<M>, other: Label<M>) -> Option<M>
     ensures { result ≡ joined M.Measure.plus (paid own) (paid other) }
 {
-    match cost_in(own) {
-        Some(a) => match cost_in(other) {
-            Some(b) => Some(a.add(b)),
-            None => None,
-        },
-        None => None,
-    }
+    let paid = own.cost()?;
+    let rest = other.cost()?;
+    Some(paid.add(rest))
 }
 
 /// What the two labels of a place cost together.
@@ -91,12 +77,10 @@ pub fn best_meeting<M: Measure + Copy, G: Map>(
     ensures { result ≡ best_along M.Order.thing M.Order.leq M.Measure.plus own.now other.now (G.Map.model map.now) (leaving (G.Map.model map.now) u.0) None }
 {
     let mut best: Option<(Place, M)> = None;
-    let mut j: usize = 0;
-    while let Some(number) = map.departure(u, j) {
+    for number in map.departures(u) {
         if let Some(road) = map.road(number) {
             best = meet(own, other, road, best);
         }
-        j += 1;
     }
     best
 }

@@ -32,11 +32,9 @@ pub fn relax<C: Order + Copy, F: Fringe<C>>(
     ensures agree { Agree C.Order.thing C.Order.leq (F.Fringe.well fringe.old) (F.Fringe.meaning fringe.old) labels.old → Agree C.Order.thing C.Order.leq (F.Fringe.well fringe.new) (F.Fringe.meaning fringe.new) labels.new }
     ensures steady { F.Fringe.well fringe.old → Steady (F.Fringe.well fringe.new) (F.Fringe.meaning fringe.old) (F.Fringe.meaning fringe.new) }
 {
-    let i = usize::from(place.0);
-    if i < labels.len() {
-        if better(cost, labels[i]) {
-            labels[i] = Label::Reached(cost, Origin::Road(road));
-            let _ = fringe.put(place, cost);
-        }
+    let i = usize::from(place);
+    if i < labels.len() && better(cost, labels[i]) {
+        labels[i] = Label::Reached(cost, Origin::Road(road));
+        let _ = fringe.put(place, cost);
     }
 }

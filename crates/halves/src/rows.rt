@@ -10,19 +10,15 @@ use routes::labels::Label;
 pub fn blank<C: Copy>(labels: &mut [Label<C>])
     ensures { labels.new ≡ replicate (length labels.old) Blank }
 {
-    for i in 0..labels.len() {
-        labels[i] = Label::Blank;
-    }
+    labels.fill(Label::Blank);
 }
 
 /// The label of a place: past the end of the row all are blank.
 pub fn label_at<C: Copy>(labels: &[Label<C>], place: Place) -> Label<C>
     ensures { result ≡ spot labels.now place.0 }
 {
-    let at = usize::from(place.0);
-    if at < labels.len() {
-        labels[at]
-    } else {
-        Label::Blank
-    }
+    labels
+        .get(usize::from(place))
+        .copied()
+        .unwrap_or(Label::Blank)
 }

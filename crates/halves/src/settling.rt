@@ -1,6 +1,7 @@
 //! The least of what is reached, settled.
 ghost use Rattle.std.specs.Prelude.{◌≡◌, length};
-ghost use Rattle.halves.specs.Labels.{spot, finished, waiting, settled_at, paired};
+ghost use Rattle.halves.specs.Labels.{spot, settled_at, paired};
+ghost use Rattle.routes.specs.Parts.{finished, waiting};
 ghost use Rattle.halves.specs.Agreement.{Agree, Steady};
 ghost use Rattle.halves.specs.Settling.{Settling};
 
@@ -9,25 +10,11 @@ use fringe::order::Order;
 use fringe::place::Place;
 use routes::labels::Label;
 
-/// The label once its place is settled.
-fn settled<C: Copy>(old: Label<C>) -> Label<C>
-    ensures { result ≡ finished old }
-{
-    match old {
-        Label::Reached(cost, from) => Label::Settled(cost, from),
-        other => other,
-    }
-}
-
 /// The place with the cost of its label, if it waits to be settled.
 fn due<C: Copy>(place: Place, label: Label<C>) -> Option<(Place, C)>
     ensures { result ≡ paired place (waiting label) }
 {
-    match label {
-        Label::Blank => None,
-        Label::Reached(cost, _) => Some((place, cost)),
-        Label::Settled(_, _) => None,
-    }
+    Some((place, label.waiting_cost()?))
 }
 
 /// Settles a place that is reached, and answers it with the cost in its label.
@@ -35,10 +22,10 @@ fn settle<C: Copy>(labels: &mut [Label<C>], place: Place) -> Option<(Place, C)>
     ensures labels { labels.new ≡ settled_at place.0 labels.old }
     ensures answer { result ≡ paired place (waiting (spot labels.old place.0)) }
 {
-    let i = usize::from(place.0);
+    let i = usize::from(place);
     if i < labels.len() {
         let old = labels[i];
-        labels[i] = settled(old);
+        labels[i] = old.settled();
         due(place, old)
     } else {
         None
@@ -55,8 +42,6 @@ pub fn settle_least<C: Order + Copy, F: Fringe<C>>(
     ensures agree { Agree C.Order.thing C.Order.leq (F.Fringe.well fringe.old) (F.Fringe.meaning fringe.old) labels.old → Agree C.Order.thing C.Order.leq (F.Fringe.well fringe.new) (F.Fringe.meaning fringe.new) labels.new }
     ensures steady { F.Fringe.well fringe.old → Steady (F.Fringe.well fringe.new) (F.Fringe.meaning fringe.old) (F.Fringe.meaning fringe.new) }
 {
-    match fringe.take() {
-        Some(best) => settle(labels, best.0),
-        None => None,
-    }
+    let (place, _) = fringe.take()?;
+    settle(labels, place)
 }

@@ -5,7 +5,7 @@ use Rattle.std.proofs.lemmas.Bool.{cond-true, lt-ltb}
 use Rattle.map.specs.declared.roads.Road.{Road}
 use Rattle.map.specs.declared.roads.Mark.{Mark as Gate}
 use Rattle.map.specs.declared.roads.Mark.TheVariants.{Open, Closed}
-use Rattle.map.specs.Model.{MapModel, WellFormed}
+use Rattle.map.specs.Model.{MapModel, WellFormed, leaving}
 use Rattle.routes.specs.declared.labels.Label.{Label as Mark}
 use Rattle.routes.specs.declared.labels.Label.TheVariants as mark
 use Rattle.routes.specs.States.{From, Label, Reached}
@@ -15,7 +15,7 @@ use Rattle.routes.specs.Asking.{is_open, in_front, row_of, open_roads}
 use Rattle.routes.specs.Labels.{start_at, label_view, labels_view}
 use Rattle.routes.proofs.LabelViews.{start_at_is, view_at, view_set}
 use Rattle.halves.specs.Labels.{spot, offered, offered_at}
-use Rattle.halves.specs.Expansions.{leaving, driven, driven_along}
+use Rattle.halves.specs.Expansions.{driven, driven_along}
 
 module _ {C T : Type 0} (thing : C → T) (leq : T → T → Bool) (plus : C → C → C) (nil blocked : C) (price : ℕ → ℕ → C) (m : MapModel) (u : ℕ) (c : C) where
   abbrev O : Ops C

@@ -25,7 +25,8 @@ use Rattle.routes.proofs.Linked as links
 use Rattle.routes.proofs.Sweep as sweep
 use Rattle.routes.proofs.RowRight as right
 use Rattle.routes.proofs.Preparing as preparing
-use Rattle.halves.specs.Labels.{spot, waiting}
+use Rattle.halves.specs.Labels.{spot}
+use Rattle.routes.specs.Parts.{waiting}
 use Rattle.halves.proofs.NearestIs as nearest
 use Rattle.table.specs.declared.entry.Entry.{Entry}
 use Rattle.table.specs.Entries.{no_entry, in_column}

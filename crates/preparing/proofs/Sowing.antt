@@ -10,7 +10,8 @@ use Rattle.map.specs.Model.{MapModel}
 use Rattle.routes.specs.declared.labels.Origin.TheVariants.{Start}
 use Rattle.routes.specs.declared.labels.Label.{Label}
 use Rattle.routes.specs.declared.labels.Label.TheVariants.{Blank, Reached}
-use Rattle.halves.specs.Labels.{spot, waiting}
+use Rattle.halves.specs.Labels.{spot}
+use Rattle.routes.specs.Parts.{waiting}
 use Rattle.halves.specs.Agreement.{Agree, Steady}
 use Rattle.halves.proofs.Alikes.{lowered_like}
 use Rattle.preparing.specs.Beginnings.{is_of, first_label, Sown, ReachedAt}

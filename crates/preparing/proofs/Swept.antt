@@ -5,7 +5,7 @@ use Rattle.std.proofs.lemmas.List.{get_or_past}
 use Rattle.std.proofs.lemmas.Bool.{cases_lt, cases_Bool, cond-true, cond-false, cond_both}
 use Rattle.fringe.specs.declared.place.Place.{Place}
 use Rattle.fringe.specs.Orders.{TotalOrder}
-use Rattle.map.specs.Model.{MapModel, WellFormed, Inhabits}
+use Rattle.map.specs.Model.{MapModel, WellFormed, Inhabits, leaving}
 use Rattle.measure.specs.Costs.{CostLaws}
 use Rattle.routes.specs.declared.labels.Origin.TheVariants as source
 use Rattle.routes.specs.declared.labels.Label.{Label as Mark}
@@ -23,9 +23,10 @@ use Rattle.routes.proofs.Linked as linked
 use Rattle.routes.proofs.Parts as parts
 use Rattle.routes.proofs.Sweep as sweep
 use Rattle.routes.proofs.Preparing as preparing
-use Rattle.halves.specs.Labels.{spot, waiting}
+use Rattle.halves.specs.Labels.{spot}
+use Rattle.routes.specs.Parts.{waiting}
 use Rattle.halves.specs.Settling.{Settles}
-use Rattle.halves.specs.Expansions.{leaving, driven_along}
+use Rattle.halves.specs.Expansions.{driven_along}
 use Rattle.halves.proofs.NearestIs as nearest
 use Rattle.preparing.specs.Beginnings.{is_of, Sown}
 use Rattle.preparing.specs.Firsts.{first_at, noted}

@@ -1,10 +1,10 @@
 -- Turns of a spread, one by one.
 use Rattle.std.proofs.Common.{◌≡◌, ℕ, ◌+◌, ◌<◌, Bool, List, length, Option, sym, subst, subst₂, arith}
 use Rattle.fringe.specs.declared.place.Place.{Place}
-use Rattle.map.specs.Model.{MapModel}
+use Rattle.map.specs.Model.{MapModel, leaving}
 use Rattle.routes.specs.declared.labels.Label.{Label}
 use Rattle.halves.specs.Settling.{Settles, Idle}
-use Rattle.halves.specs.Expansions.{leaving, driven_along}
+use Rattle.halves.specs.Expansions.{driven_along}
 use Rattle.preparing.specs.Firsts.{noted}
 use Rattle.preparing.specs.Runs.{Runs, turned, Ran}
 

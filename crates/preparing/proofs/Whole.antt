@@ -9,7 +9,8 @@ use Rattle.fringe.specs.Orders.{TotalOrder}
 use Rattle.map.specs.Model.{MapModel, WellFormed}
 use Rattle.measure.specs.Costs.{CostLaws}
 use Rattle.routes.specs.declared.labels.Label.{Label}
-use Rattle.halves.specs.Labels.{spot, waiting}
+use Rattle.halves.specs.Labels.{spot}
+use Rattle.routes.specs.Parts.{waiting}
 use Rattle.preparing.specs.declared.Prepared.{Prepared}
 use Rattle.preparing.specs.Beginnings.{Sown}
 use Rattle.preparing.specs.Firsts.{number_in, first_at}

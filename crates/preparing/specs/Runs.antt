@@ -1,11 +1,12 @@
 -- A spread turn by turn.
 use Rattle.std.specs.Prelude.{◌≡◌, ℕ, ◌+◌, ◌<◌, ◌≤◌, Bool, List, length, None, Option}
 use Rattle.fringe.specs.declared.place.Place.{Place}
-use Rattle.map.specs.Model.{MapModel}
+use Rattle.map.specs.Model.{MapModel, leaving}
 use Rattle.routes.specs.declared.labels.Label.{Label}
-use Rattle.halves.specs.Labels.{spot, waiting}
+use Rattle.halves.specs.Labels.{spot}
+use Rattle.routes.specs.Parts.{waiting}
 use Rattle.halves.specs.Settling.{Settles}
-use Rattle.halves.specs.Expansions.{leaving, driven_along}
+use Rattle.halves.specs.Expansions.{driven_along}
 use Rattle.preparing.specs.Firsts.{noted}
 
 module _ {C T : Type 0} (thing : C → T) (leq : T → T → Bool) (plus : C → C → C) (price : ℕ → ℕ → C) (m : MapModel) (labels₀ : List (Label C)) (firsts₀ : List (Option Place)) where

@@ -1,3 +1,4 @@
+pub mod Parts
 pub mod Promise
 pub mod Layers
 pub mod Prepared

@@ -15,7 +15,8 @@ use Rattle.routes.proofs.LabelViews.{view_at}
 use Rattle.routes.proofs.Linked as linked
 use Rattle.routes.proofs.Sums as sums
 use Rattle.routes.proofs.Tracked as tracked
-use Rattle.halves.specs.Labels.{spot, waiting}
+use Rattle.halves.specs.Labels.{spot}
+use Rattle.routes.specs.Parts.{waiting}
 use Rattle.halves.specs.Agreement.{Agree}
 use Rattle.search.specs.Turns.{is_over, sum_reaches}
 

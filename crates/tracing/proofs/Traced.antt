@@ -11,7 +11,8 @@ use Rattle.routes.specs.States as states
 use Rattle.routes.specs.Labels.{label_view, labels_view}
 use Rattle.routes.specs.Search.{trail}
 use Rattle.routes.proofs.LabelViews.{view_at}
-use Rattle.tracing.specs.Listings.{numbers, origin_in, Listed, Short}
+use Rattle.tracing.specs.Listings.{numbers, Listed, Short}
+use Rattle.routes.specs.Parts.{origin_in}
 use Rattle.tracing.proofs.Numbers.{numbers_++, numbers_length}
 
 -- nothing in a list of length 0

@@ -5,12 +5,6 @@ use Rattle.routes.specs.declared.labels.Origin.{Origin}
 use Rattle.routes.specs.declared.labels.Label.{Label}
 use Rattle.routes.specs.declared.labels.Label.TheVariants.{Blank, Reached, Settled}
 
--- Where a label comes from.
-abbrev pub origin_in : {C : Type 0} → Label C → Option Origin
-origin_in Blank = None
-origin_in (Reached c o) = Some o
-origin_in (Settled c o) = Some o
-
 -- The places of a list by their numbers.
 abbrev pub numbers : List Place → List ℕ
 numbers [] = []

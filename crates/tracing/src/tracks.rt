@@ -2,7 +2,8 @@
 ghost use Rattle.std.specs.Prelude.{◌≡◌, ℕ, suc, ◌≤◌, length};
 ghost use Rattle.routes.specs.Labels.{start_at, labels_view};
 ghost use Rattle.routes.specs.Search.{trail};
-ghost use Rattle.tracing.specs.Listings.{Listed, Short, origin_in};
+ghost use Rattle.tracing.specs.Listings.{Listed, Short};
+ghost use Rattle.routes.specs.Parts.{origin_in};
 
 use fringe::place::Place;
 use halves::label_at;

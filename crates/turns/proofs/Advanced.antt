@@ -3,7 +3,7 @@ use Rattle.std.proofs.Common.{◌≡◌, ℕ, suc, ◌+◌, ◌<◌, Bool, true,
 use mathlib.Core.Option.{none}
 use Rattle.fringe.specs.declared.place.Place.{Place}
 use Rattle.fringe.specs.Orders.{TotalOrder}
-use Rattle.map.specs.Model.{MapModel, WellFormed}
+use Rattle.map.specs.Model.{MapModel, WellFormed, leaving}
 use Rattle.measure.specs.Costs.{CostLaws}
 use Rattle.routes.specs.declared.labels.Label.{Label}
 use Rattle.routes.specs.declared.labels.Label.TheVariants.{Blank}
@@ -14,7 +14,7 @@ use Rattle.routes.specs.Search as search_spec
 use Rattle.routes.specs.Asking.{Table, given}
 use Rattle.routes.proofs.LabelViews.{view_at}
 use Rattle.routes.proofs.MapRoads as map_roads
-use Rattle.halves.specs.Expansions.{leaving, driven_along}
+use Rattle.halves.specs.Expansions.{driven_along}
 use Rattle.halves.specs.Meetings.{best_along}
 use Rattle.halves.specs.Views.{meeting_view}
 use Rattle.halves.proofs.ExpandIs.{expand_is}

@@ -1,12 +1,12 @@
-use Rattle.std.proofs.Common.{◌-◌, length}
-use Rattle.halves.specs.Expansions.{leaving}
-use Rattle.halves.proofs.Bests.{Best}
+use Rattle.std.proofs.Common.{◌≡◌, None}
+use Rattle.map.specs.Model.{leaving}
+use Rattle.halves.specs.Meetings.{best_along}
 use Rattle.halves.proofs.meetings.best_meeting.Given as goal
 
+-- the best along the roads still to come is the best along all
 abbrev pub invariant-loop-number : goal.invariant-loop-number
 invariant-loop-number g l =
     let o = g.M.Order in
-    Best o.thing o.leq g.M.Measure.plus l.own l.other (g.G.Map.model l.map) l.u.0 l.best l.j
-
-abbrev pub decreases-loop-number : goal.decreases-loop-number
-decreases-loop-number g l = length (leaving (g.G.Map.model l.map) l.u.0) - l.j
+    let m = g.G.Map.model l.map in
+    best_along o.thing o.leq g.M.Measure.plus l.own l.other m l.number-iterator l.best
+    ≡ best_along o.thing o.leq g.M.Measure.plus l.own l.other m (leaving m l.fn.u.0) None

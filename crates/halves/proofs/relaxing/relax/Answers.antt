@@ -3,6 +3,7 @@ use Rattle.routes.specs.declared.labels.Origin.TheVariants.{Road as by_road}
 use Rattle.halves.specs.Labels.{spot, improves}
 use Rattle.halves.proofs.Offers.{spot_read, offer_past, offer_kept, offer_taken, offer_agrees}
 use Rattle.halves.proofs.relaxing.relax.Goals as goal
+use Rattle.halves.proofs.relaxing.relax.Goals.{else-i-labels-via-then-i-labels+else-better, else-i-labels-via-else-i-labels}
 
 pub returns-then-better : goal.returns-then-better
 returns-then-better g c =
@@ -21,30 +22,23 @@ returns-then-better g c =
       steady = λ w. record { in_order = c.put.ensures.well w; same_capacity = (c.put.ensures.put w).same_capacity };
     }
 
-pub returns-else-better : goal.returns-else-better
-returns-else-better g c =
+pub returns-else-i-labels : goal.returns-else-i-labels
+returns-else-i-labels g c =
     let o = g.C.Order in
     let labels = c.args.labels.now in
     let cost = c.args.cost in
     let i = c.from-i.result in
     let v = c.args.place.0 in
     let e : i ≡ v = c.from-i.ensures in
-    let inside : i < length labels = omega arith in
-    let was = spot_read labels i v c.index-labels-i.result e inside c.index-labels-i.is in
-    let loses : improves o.thing o.leq cost (spot labels v) ≡ false = ap (λ x. improves o.thing o.leq cost x) was ∙ sym c.if-better.ensures in
     record {
-      labels = offer_kept o.thing o.leq cost c.args.road labels i v e loses;
-      agree = λ a. a;
-      steady = λ w. record { in_order = w; same_capacity = refl };
-    }
-
-pub returns-else-i-labels : goal.returns-else-i-labels
-returns-else-i-labels g c =
-    let o = g.C.Order in
-    let labels = c.args.labels.now in
-    let i = c.from-i.result in
-    record {
-      labels = offer_past o.thing o.leq c.args.cost c.args.road labels i c.args.place.0 c.from-i.ensures (omega arith);
+      labels = elim c.else-i-labels.branch [
+        | else-i-labels-via-then-i-labels+else-better w ↦
+            let inside : i < length labels = omega arith in
+            let was = spot_read labels i v w.index-labels-i.result e inside w.index-labels-i.is in
+            let loses : improves o.thing o.leq cost (spot labels v) ≡ false = ap (λ x. improves o.thing o.leq cost x) was ∙ sym w.if-better.ensures in
+            offer_kept o.thing o.leq cost c.args.road labels i v e loses
+        | else-i-labels-via-else-i-labels w ↦ offer_past o.thing o.leq cost c.args.road labels i v e (omega arith)
+      ];
       agree = λ a. a;
       steady = λ w. record { in_order = w; same_capacity = refl };
     }

@@ -1,35 +1,37 @@
 use Rattle.std.proofs.Common.{length, sym, refl, ap, ◌∙◌, subst, subst₂, length-set}
-use Rattle.halves.specs.Labels.{spot, finished}
+use Rattle.halves.specs.Labels.{spot}
+use Rattle.routes.specs.Parts.{finished}
 use Rattle.halves.specs.Agreement.{Agree}
 use Rattle.halves.specs.Settling.{Settling}
 use Rattle.halves.proofs.Settled.{idle, idle_agrees, settles, settled_agrees}
 use Rattle.halves.proofs.settling.settle_least.Goals as goal
 
-pub returns-in-Some : goal.returns-in-Some
-returns-in-Some g c =
+pub returns : goal.returns
+returns g c =
     let o = g.C.Order in
     let f = g.F.Fringe in
     let labels = c.args.labels.now in
-    let got = c.in-Some.ensures in
-    let p = c.in-Some.best.0 in
+    let got = c.in_ok-place.ensures in
+    let p = c.in_ok-place.place in
     let done = c.settle.ensures in
     record {
       sized = ap length done.labels ∙ length-set labels p.0 (finished (spot labels p.0));
       labels = λ a. subst₂ (λ x y. Settling o.thing o.leq labels x y) (sym done.labels) (sym done.answer)
-          (settles o.thing o.leq a p c.in-Some.best.1 (got.taken a.in_order).answer);
+          (settles o.thing o.leq a p c.in_ok-place.field-0-1 (got.taken a.in_order).answer);
       agree = λ a. let t = got.taken a.in_order in
           subst (λ x. Agree o.thing o.leq (f.well c.take.new.self) (f.meaning c.take.new.self) x) (sym done.labels)
-          (settled_agrees o.thing o.leq a p c.in-Some.best.1 t.answer (got.well a.in_order) t.same_capacity t.rest);
+          (settled_agrees o.thing o.leq a p c.in_ok-place.field-0-1 t.answer (got.well a.in_order) t.same_capacity t.rest);
       steady = λ w. record { in_order = got.well w; same_capacity = (got.taken w).same_capacity };
     }
 
-pub returns-in-None : goal.returns-in-None
-returns-in-None g c =
+pub returns-in_err-place : goal.returns-in_err-place
+returns-in_err-place g c =
     let o = g.C.Order in
-    let got = c.in-None.ensures in
+    let labels = c.args.labels.now in
+    let got = c.in_err-place.ensures in
     record {
       sized = refl;
-      labels = λ a. idle o.thing o.leq a (got.taken a.in_order).answer;
+      labels = λ a. subst (λ y. Settling o.thing o.leq labels labels y) (sym c.from_residual.ensures) (idle o.thing o.leq a (got.taken a.in_order).answer);
       agree = λ a. let t = got.taken a.in_order in idle_agrees o.thing o.leq a t.answer (got.well a.in_order) t.same_capacity t.rest;
       steady = λ w. record { in_order = got.well w; same_capacity = (got.taken w).same_capacity };
     }

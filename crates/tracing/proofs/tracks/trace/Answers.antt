@@ -1,6 +1,6 @@
 use Rattle.std.proofs.Common.{◌<◌, length, Some, sym, refl, ap, ◌∙◌, arith}
 use Rattle.routes.specs.Labels.{start_at}
-use Rattle.tracing.specs.Listings.{origin_in}
+use Rattle.routes.specs.Parts.{origin_in}
 use Rattle.tracing.proofs.Traced.{tracing_none, traced_stop, traced_full, traced_last, traced_on}
 use Rattle.tracing.proofs.tracks.trace.Goals as goal
 
