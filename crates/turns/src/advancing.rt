@@ -31,15 +31,13 @@ pub fn upper_after<M: Measure + Copy>(
 ) -> M
     ensures { (back_of : ℕ → ℕ) → result ≡ lowered (ops_of M.Order.thing M.Order.leq M.Measure.plus M.Measure.nil M.Measure.top) (ends_of pair) u.0 cost (labels_view back_of others.now) upper }
 {
-    match pair {
-        Some(ends) => {
-            if ends.0.0 == u.0 {
-                upper_through(label_at(others, ends.1), cost, upper)
-            } else {
-                upper
-            }
-        }
-        None => upper,
+    let Some(ends) = pair else {
+        return upper;
+    };
+    if ends.0 == u {
+        upper_through(label_at(others, ends.1), cost, upper)
+    } else {
+        upper
     }
 }
 
@@ -73,19 +71,13 @@ fn expanded<M: Measure + Copy>(
         ..found
     };
     match met {
-        Some(at) => {
-            if at.1.less(&found.best) {
-                Findings {
-                    best: at.1,
-                    upper: lesser(upper, at.1),
-                    meet: at.0,
-                    ..so_far
-                }
-            } else {
-                so_far
-            }
-        }
-        None => so_far,
+        Some((meet, sum)) if sum.less(&found.best) => Findings {
+            best: sum,
+            upper: lesser(upper, sum),
+            meet,
+            ..so_far
+        },
+        _ => so_far,
     }
 }
 

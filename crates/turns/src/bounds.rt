@@ -20,10 +20,9 @@ pub fn lesser<M: Measure + Copy>(a: M, b: M) -> M
 pub fn upper_through<M: Measure + Copy>(label: Label<M>, cost: M, upper: M) -> M
     ensures { (start_of : ℕ → ℕ) → result ≡ through (ops_of M.Order.thing M.Order.leq M.Measure.plus M.Measure.nil M.Measure.top) (label_view start_of label) cost upper }
 {
-    match label {
-        Label::Blank => upper,
-        Label::Reached(_, _) => upper,
-        Label::Settled(rest, _) => lesser(cost.add(rest), upper),
+    match label.final_cost() {
+        Some(rest) => lesser(cost.add(rest), upper),
+        None => upper,
     }
 }
 
@@ -31,11 +30,7 @@ pub fn upper_through<M: Measure + Copy>(label: Label<M>, cost: M, upper: M) -> M
 fn is_unsettled<C: Copy>(label: Label<C>) -> bool
     ensures { (start_of : ℕ → ℕ) → result ≡ unsettled (label_view start_of label) }
 {
-    match label {
-        Label::Blank => true,
-        Label::Reached(_, _) => true,
-        Label::Settled(_, _) => false,
-    }
+    label.final_cost().is_none()
 }
 
 /// Whether a lower bound is blocked or above the upper bound.
@@ -58,12 +53,9 @@ pub fn is_too_dear<M: Measure + Copy>(
 ) -> bool
     ensures { (start_of : ℕ → ℕ) → result ≡ too_dear (ops_of M.Order.thing M.Order.leq M.Measure.plus M.Measure.nil M.Measure.top) (maybe own) (maybe other) (label_view start_of label) cost upper }
 {
-    match own {
-        Some(_) => match other {
-            Some(gate) => is_unsettled(label) && exceeds(cost.add(gate), upper),
-            None => false,
-        },
-        None => false,
+    match (own, other) {
+        (Some(_), Some(gate)) => is_unsettled(label) && exceeds(cost.add(gate), upper),
+        _ => false,
     }
 }
 
@@ -72,8 +64,5 @@ pub fn is_too_dear<M: Measure + Copy>(
 pub fn gate_after<C: Copy>(gate: Option<C>, own: bool, cost: C) -> Option<C>
     ensures { maybe result ≡ gate_after (maybe gate) own cost }
 {
-    match gate {
-        Some(known) => Some(known),
-        None => { if own { Some(cost) } else { None } }
-    }
+    gate.or(own.then_some(cost))
 }
