@@ -18,7 +18,7 @@ use Rattle.turns.specs.Fits.{Fits}
 use Rattle.search.specs.declared.guides.Guide.{Guide}
 use Rattle.search.specs.declared.guides.Way.{Way}
 use Rattle.search.specs.declared.guides.Way.TheVariants.{Forward, Backward}
-use Rattle.search.specs.Guides.{Guides, facing, entry_ahead, cost_ahead, pair_ahead, is_gate}
+use Rattle.search.specs.Guides.{Guides, facing, entry_ahead, cost_ahead, pair_ahead, is_gate, GuideOf}
 
 module _ {K : Type 0} (price : ℕ → ℕ → K) where
   -- the roads into a place leave it on the map turned round
@@ -76,31 +76,31 @@ module _ {K : Type 0} (plus : K → K → K) (nil : K) (price : ℕ → ℕ → 
   few : (u : ℕ) → u < base.places → base.district u < 64
   few u l = let k = sound.district_known u l in let d = sound.few_districts in omega (arith, k, d)
 
-  module _ {B : Type 0} (s t : ℕ) (s_known : s < base.places) (t_known : t < base.places) (guide : Guide B) (table_is : guide.table.now ≡ table) (pairs_is : guide.pairs ≡ pairs) where
+  module _ {B : Type 0} (on : B) (s t : ℕ) (s_known : s < base.places) (t_known : t < base.places) (guide : Guide B) where
     -- the side that goes along the roads
-    module _ (home : guide.home.0 ≡ base.district s) (away : guide.away.0 ≡ base.district t) (way : guide.way ≡ Forward) where
+    module _ (of : GuideOf Forward base on table pairs s t guide) where
       along_entry : (u : ℕ) → entry_ahead guide.way guide.table.now (base.district u) guide.away.0 ≡ entry_at table (base.district u) (base.district t)
       along_entry u =
-          ap (λ w. entry_ahead w guide.table.now (base.district u) guide.away.0) way ∙ ap₂ (λ z j. entry_at z (base.district u) j) table_is away
+          ap (λ w. entry_ahead w guide.table.now (base.district u) guide.away.0) of.way_is ∙ ap₂ (λ z j. entry_at z (base.district u) j) of.table_is (of.away_is t_known)
 
       pub guided_along : Guides nil decoded base guide G s t
       guided_along = record {
-        gates = λ u l. ap (λ d. is_gate base d u) home;
+        gates = λ u l. ap (λ d. is_gate base d u) (of.home_is s_known);
         costs = λ u l. ap (cost_ahead nil decoded) (along_entry u) ∙ cost_read nil decoded table (base.district u) (base.district t) (few t t_known);
-        ends = λ u l. ap₂ (λ w e. pair_ahead w guide.pairs e) way (along_entry u) ∙ ap (λ p. pair_ahead Forward p (entry_at table (base.district u) (base.district t))) pairs_is
+        ends = λ u l. ap₂ (λ w e. pair_ahead w guide.pairs e) of.way_is (along_entry u) ∙ ap (λ p. pair_ahead Forward p (entry_at table (base.district u) (base.district t))) of.pairs_is
             ∙ pair_read nil decoded table (base.district u) (base.district t) (few t t_known) Forward pairs;
       }
 
     -- the side that goes against them, from t
-    module _ (home : guide.home.0 ≡ base.district t) (away : guide.away.0 ≡ base.district s) (way : guide.way ≡ Backward) where
+    module _ (of : GuideOf Backward base on table pairs t s guide) where
       against_entry : (u : ℕ) → entry_ahead guide.way guide.table.now (base.district u) guide.away.0 ≡ entry_at table (base.district s) (base.district u)
       against_entry u =
-          ap (λ w. entry_ahead w guide.table.now (base.district u) guide.away.0) way ∙ ap₂ (λ z i. entry_at z i (base.district u)) table_is away
+          ap (λ w. entry_ahead w guide.table.now (base.district u) guide.away.0) of.way_is ∙ ap₂ (λ z i. entry_at z i (base.district u)) of.table_is (of.away_is s_known)
 
       pub guided_against : Guides nil decoded base guide (flip G) t s
       guided_against = record {
-        gates = λ u l. ap (λ d. is_gate base d u) home;
+        gates = λ u l. ap (λ d. is_gate base d u) (of.home_is t_known);
         costs = λ u l. ap (cost_ahead nil decoded) (against_entry u) ∙ cost_read nil decoded table (base.district s) (base.district u) (few u l);
-        ends = λ u l. ap₂ (λ w e. pair_ahead w guide.pairs e) way (against_entry u) ∙ ap (λ p. pair_ahead Backward p (entry_at table (base.district s) (base.district u))) pairs_is
+        ends = λ u l. ap₂ (λ w e. pair_ahead w guide.pairs e) of.way_is (against_entry u) ∙ ap (λ p. pair_ahead Backward p (entry_at table (base.district s) (base.district u))) of.pairs_is
             ∙ pair_read nil decoded table (base.district s) (base.district u) (few u l) Backward pairs;
       }

@@ -50,3 +50,13 @@ pub record Guides {K B : Type 0} (zero : K) (decoded : ℕ → K) (base : MapMod
       cost_ahead zero decoded (entry_ahead guide.way guide.table.now (base.district u) guide.away.0) ≡ G.entry (G.district u) (G.district t)
   pub ends : (u : ℕ) → u < base.places →
       pair_ahead guide.way guide.pairs (entry_ahead guide.way guide.table.now (base.district u) guide.away.0) ≡ G.pair (G.district u) (G.district t)
+
+-- A guide for a side that starts at s and whose other side starts at t: over the base map `on`, which means `base`, with that
+-- table, and with the districts of both places.
+pub record GuideOf {B : Type 0} (way : Way) (base : MapModel) (on : B) (table : Table) (pairs : Bool) (s t : ℕ) (guide : Guide B) : Type 0 where
+  pub way_is : guide.way ≡ way
+  pub base_is : guide.base.now ≡ on
+  pub table_is : guide.table.now ≡ table
+  pub pairs_is : guide.pairs ≡ pairs
+  pub home_is : s < base.places → guide.home.0 ≡ base.district s
+  pub away_is : t < base.places → guide.away.0 ≡ base.district t

@@ -1,9 +1,22 @@
-//! What a side of a search reads beside the map that it runs over.
+//! What is asked, and what a side of a search reads beside the map that it runs over.
+use fringe::place::Place;
 use map::numbers::District;
 use table::Table;
 
+/// From where to where, over the map as it reads now. Districts, borders and the table are those of the base map, and
+/// stored pairs may be used where both layers are empty.
+#[derive(Drop)]
+pub struct Question<'a, G, B> {
+    pub map: &'a G,
+    pub base: &'a B,
+    pub table: &'a Table,
+    pub pairs: bool,
+    pub start: Place,
+    pub goal: Place,
+}
+
 /// Which way a side goes: along the roads from the start, or against them from the goal.
-#[derive(Clone, Copy)]
+#[derive(Clone, Copy, PartialEq, Eq, Debug)]
 pub enum Way {
     Forward,
     Backward,

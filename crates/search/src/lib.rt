@@ -7,4 +7,5 @@ mod running;
 mod searching;
 mod turning;
 
+pub use guides::Question;
 pub use searching::search;

@@ -16,12 +16,10 @@ use turns::Between;
 fn faced(way: Way, pair: Option<(Place, Place)>) -> Option<(Place, Place)>
     ensures { ends_of result ≡ facing way (ends_of pair) }
 {
-    match pair {
-        Some(ends) => match way {
-            Way::Forward => Some(ends),
-            Way::Backward => Some((ends.1, ends.0)),
-        },
-        None => None,
+    let (start, end) = pair?;
+    match way {
+        Way::Forward => Some((start, end)),
+        Way::Backward => Some((end, start)),
     }
 }
 
@@ -59,17 +57,14 @@ impl<'a, B: Map> Guide<'a, B> {
     fn district(&self, u: Place) -> District
         ensures { u.0 < (B.Map.model self.now.base.now).places → result.0 ≡ (B.Map.model self.now.base.now).district u.0 }
     {
-        match self.base.district(u) {
-            Some(district) => district,
-            None => self.home,
-        }
+        self.base.district(u).unwrap_or(self.home)
     }
 
     /// Whether a place is a border place of the side's own district.
     pub fn is_gate(&self, u: Place) -> bool
         ensures { u.0 < (B.Map.model self.now.base.now).places → result ≡ is_gate (B.Map.model self.now.base.now) self.now.home.0 u.0 }
     {
-        is_border(self.base, u) && self.district(u).0 == self.home.0
+        is_border(self.base, u) && self.district(u) == self.home
     }
 
     /// What the table says between the district of a place and the other side's.

@@ -22,12 +22,9 @@ use turns::{Findings, advance};
 fn is_done<M: Measure + Copy>(near: Option<(Place, M)>, far: Option<(Place, M)>, best: M) -> bool
     ensures { result ≡ sum_reaches M.Order.thing M.Order.leq M.Measure.plus near far best }
 {
-    match near {
-        Some(a) => match far {
-            Some(b) => !a.1.add(b.1).less(&best),
-            None => true,
-        },
-        None => true,
+    match (near, far) {
+        (Some((_, near)), Some((_, far))) => !near.add(far).less(&best),
+        _ => true,
     }
 }
 
@@ -55,13 +52,8 @@ pub fn turn<M: Measure + Copy, G: Map, B: Map, F: Fringe<M>, N: Fringe<M>>(
     if is_over(fringe, other_fringe, found.best) {
         return None;
     }
-    match settle_least(labels, fringe) {
-        Some(settled) => {
-            let gate = guide.is_gate(settled.0);
-            let between = guide.ahead(settled.0);
-            let (u, cost) = settled;
-            Some(advance(map, u, cost, gate, between, labels, fringe, others, found))
-        }
-        None => None,
-    }
+    let (u, cost) = settle_least(labels, fringe)?;
+    let gate = guide.is_gate(u);
+    let between = guide.ahead(u);
+    Some(advance(map, u, cost, gate, between, labels, fringe, others, found))
 }

@@ -14,12 +14,12 @@ returns-then-is_over g c = record {
   steady = steady_still;
 }
 
-pub returns-in-Some : goal.returns-in-Some
-returns-in-Some g c = record {
+pub returns : goal.returns
+returns g c = record {
   taken = λ laws back_of G s t x guides a.
       let o = g.M.Order in
       let k = g.M.Measure in
-      let settles = c.in-Some.ensures.labels a.agree in
+      let settles = c.in_ok-u.ensures.labels a.agree in
       let over = c.if-is_over.ensures laws (start_at (g.G.Map.model c.args.map.now)) back_of c.args.labels.now c.args.others.now a.agree a.others_agree in
       record {
         place = taken o.thing o.leq g.met.M.Order.ordered k.plus k.nil k.top k.cost k.code laws _ _ back_of _ _ _ _ _ _ _ G x a _ _ _ settles;
@@ -28,18 +28,18 @@ returns-in-Some g c = record {
             (from o.thing o.leq g.met.M.Order.ordered k.plus k.nil k.top k.cost k.code laws _ _ back_of _ _ _ _ _ _ _ G x a _ _ _ settles)
             (turn_settled o.thing o.leq g.met.M.Order.ordered k.plus k.nil k.top k.cost k.code laws _ _ back_of _ _ _ _ _ _ _ G x a _ _ _ settles
             _ refl k.decoded c.args.guide.now s t guides c.is_gate-gate.result c.ahead-between.result c.is_gate-gate.ensures c.ahead-between.ensures);
-        agree = c.advance.ensures.agree (c.in-Some.ensures.agree a.agree);
+        agree = c.advance.ensures.agree (c.in_ok-u.ensures.agree a.agree);
       };
-  steady = steady_then c.in-Some.ensures.steady c.advance.ensures.steady;
+  steady = steady_then c.in_ok-u.ensures.steady c.advance.ensures.steady;
 }
 
-pub returns-in-None : goal.returns-in-None
-returns-in-None g c = record {
+pub returns-in_err-u : goal.returns-in_err-u
+returns-in_err-u g c = record {
   taken = λ laws back_of G s t x guides a.
       let o = g.M.Order in
       let k = g.M.Measure in
       absurd (turn_idle o.thing o.leq g.met.M.Order.ordered k.plus k.nil k.top k.cost k.code laws _ _ back_of _ _ _ _ _ _ _ G x a _
       (c.if-is_over.ensures laws (start_at (g.G.Map.model c.args.map.now)) back_of c.args.labels.now c.args.others.now a.agree a.others_agree)
-      (c.in-None.ensures.labels a.agree));
-  steady = c.in-None.ensures.steady;
+      (c.in_err-u.ensures.labels a.agree));
+  steady = c.in_err-u.ensures.steady;
 }
