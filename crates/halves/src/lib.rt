@@ -4,6 +4,7 @@
 pub mod beginning;
 pub mod expanding;
 pub mod meetings;
+pub mod origins;
 pub mod relaxing;
 pub mod rows;
 pub mod settling;
@@ -11,6 +12,7 @@ pub mod settling;
 pub use beginning::begin;
 pub use expanding::expand;
 pub use meetings::best_meeting;
+pub use origins::start_of;
 pub use relaxing::relax;
 pub use rows::{blank, label_at};
 pub use settling::settle_least;

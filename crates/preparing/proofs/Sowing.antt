@@ -6,7 +6,7 @@ use Rattle.std.proofs.lemmas.Bool.{cases_eq, cases_lt, cond-true, cond-false, le
 use Rattle.std.specs.Option.{option_map}
 use Rattle.fringe.specs.declared.fringes.Refusal.{Refusal}
 use Rattle.fringe.specs.Fringes.{Meaning, Put, Emptied, lowered}
-use Rattle.map.specs.Model.{MapModel}
+use Rattle.map.specs.Model.{MapModel, is_in}
 use Rattle.routes.specs.declared.labels.Origin.TheVariants.{Start}
 use Rattle.routes.specs.declared.labels.Label.{Label}
 use Rattle.routes.specs.declared.labels.Label.TheVariants.{Blank, Reached}
@@ -14,7 +14,7 @@ use Rattle.halves.specs.Labels.{spot}
 use Rattle.routes.specs.Parts.{waiting}
 use Rattle.halves.specs.Agreement.{Agree, Steady}
 use Rattle.halves.proofs.Alikes.{lowered_like}
-use Rattle.preparing.specs.Beginnings.{is_of, first_label, Sown, ReachedAt}
+use Rattle.preparing.specs.Beginnings.{first_label, Sown, ReachedAt}
 
 -- a row of blank labels
 pub blank_spot : {C : Type 0} (n v : ℕ) → spot (replicate {A = Label C} n Blank) v ≡ Blank
@@ -72,23 +72,23 @@ module _ {C T F : Type 0} (thing : C → T) (leq : T → T → Bool) (well : F �
 
   module _ {labels : List (Label C)} {f : F} {i : ℕ} (so_far : Sowing labels f i) where
     -- a place of another district
-    pub sowing_past : is_of m d i ≡ false → Sowing labels f (i + 1)
+    pub sowing_past : is_in m d i ≡ false → Sowing labels f (i + 1)
     sowing_past no' = record {
       sized = so_far.sized;
       done = λ v l k. ⊎_elim (λ b. so_far.done v b k)
-          (λ b. let e : i ≡ v = omega (arith, b, l) in so_far.ahead v b ∙ sym (cond-false (is_of m d v) (Reached nil Start) Blank (subst (λ z. is_of m d z ≡ false) e no'))) (cases_lt v i);
+          (λ b. let e : i ≡ v = omega (arith, b, l) in so_far.ahead v b ∙ sym (cond-false (is_in m d v) (Reached nil Start) Blank (subst (λ z. is_in m d z ≡ false) e no'))) (cases_lt v i);
       ahead = λ v l. so_far.ahead v (omega (arith, l));
       agree = so_far.agree;
       steady = so_far.steady;
     }
 
     -- a place of the district
-    pub sowing_on : {labels' : List (Label C)} {f' : F} (c : C) → c ≡ nil → is_of m d i ≡ true → ReachedAt thing leq well meaning labels f i c labels' f' → (well f → Steady (well f') (meaning f) (meaning f')) → Sowing labels' f' (i + 1)
+    pub sowing_on : {labels' : List (Label C)} {f' : F} (c : C) → c ≡ nil → is_in m d i ≡ true → ReachedAt thing leq well meaning labels f i c labels' f' → (well f → Steady (well f') (meaning f) (meaning f')) → Sowing labels' f' (i + 1)
     sowing_on {labels'} {f'} c free yes' r steady = record {
       sized = ap length r.labels ∙ length-set labels i (Reached c Start) ∙ so_far.sized;
       done = λ v l k. ap (λ z. spot z v) r.labels ∙ ⊎_elim
           (λ (e : v ≡ i). subst (λ z. spot (set labels i (Reached c Start)) z ≡ first_label m d nil z) (sym e)
-          (get_or-set_same labels i (Reached c Start) Blank (let s = so_far.sized in omega (arith, e, k, s)) ∙ ap (λ z. Reached z Start) free ∙ sym (cond-true (is_of m d i) (Reached nil Start) Blank yes')))
+          (get_or-set_same labels i (Reached c Start) Blank (let s = so_far.sized in omega (arith, e, k, s)) ∙ ap (λ z. Reached z Start) free ∙ sym (cond-true (is_in m d i) (Reached nil Start) Blank yes')))
           (λ x. get_or-set_other labels i v (Reached c Start) Blank x ∙ so_far.done v (omega (arith, l, x)) k)
           (cases_eq v i);
       ahead = λ v l. ap (λ z. spot z v) r.labels ∙ get_or-set_other labels i v (Reached c Start) Blank (λ e. omega (arith, e, l)) ∙ so_far.ahead v (omega (arith, l));
@@ -100,5 +100,5 @@ module _ {C T F : Type 0} (thing : C → T) (leq : T → T → Bool) (well : F �
     sowing_all l = record {
       sized = so_far.sized;
       each = λ v k. ⊎_elim (λ b. so_far.done v b k)
-          (λ b. so_far.ahead v b ∙ sym (cond-false (is_of m d v) (Reached nil Start) Blank (rw (le-ltb v m.places (omega (arith, b, l)))))) (cases_lt v i);
+          (λ b. so_far.ahead v b ∙ sym (cond-false (is_in m d v) (Reached nil Start) Blank (rw (le-ltb v m.places (omega (arith, b, l)))))) (cases_lt v i);
     }

@@ -5,7 +5,7 @@ use Rattle.std.proofs.lemmas.List.{get_or_past}
 use Rattle.std.proofs.lemmas.Bool.{cases_lt, cases_Bool, cond-true, cond-false, cond_both}
 use Rattle.fringe.specs.declared.place.Place.{Place}
 use Rattle.fringe.specs.Orders.{TotalOrder}
-use Rattle.map.specs.Model.{MapModel, WellFormed, Inhabits, leaving}
+use Rattle.map.specs.Model.{MapModel, WellFormed, Inhabits, leaving, is_in}
 use Rattle.measure.specs.Costs.{CostLaws}
 use Rattle.routes.specs.declared.labels.Origin.TheVariants as source
 use Rattle.routes.specs.declared.labels.Label.{Label as Mark}
@@ -28,7 +28,7 @@ use Rattle.routes.specs.Parts.{waiting}
 use Rattle.halves.specs.Settling.{Settles}
 use Rattle.halves.specs.Expansions.{driven_along}
 use Rattle.halves.proofs.NearestIs as nearest
-use Rattle.preparing.specs.Beginnings.{is_of, Sown}
+use Rattle.preparing.specs.Beginnings.{Sown}
 use Rattle.preparing.specs.Firsts.{first_at, noted}
 use Rattle.preparing.specs.Runs.{Runs, begun, turned, Ran}
 use Rattle.preparing.proofs.Homes.{of_is, is_home}
@@ -62,17 +62,17 @@ module _ {K T : Type 0} (thing : K → T) (leq : T → T → Bool) (order : Tota
   module _ (labels : List (Mark K)) (sown : Sown m d nil m.places labels) where
     begins_at : (v : ℕ) → Inhabits m d v → label_at (seen labels) v ≡ Reached nil Start
     begins_at v h = view_at (start_at m) labels v
-        ∙ ap (label_view (start_at m)) (sown.each v h.known ∙ cond-true (is_of m d v) (mark.Reached nil source.Start) mark.Blank (of_is m d v h))
+        ∙ ap (label_view (start_at m)) (sown.each v h.known ∙ cond-true (is_in m d v) (mark.Reached nil source.Start) mark.Blank (of_is m d v h))
 
     blank_at : (v : ℕ) → (Inhabits m d v → ⊥) → label_at (seen labels) v ≡ Blank
     blank_at v n = view_at (start_at m) labels v ∙ ap (label_view (start_at m)) (⊎_elim
-        (λ l. sown.each v l ∙ ⊎_elim (λ t. absurd (n (is_home m d v t))) (λ f. cond-false (is_of m d v) (mark.Reached nil source.Start) mark.Blank f) (cases_Bool (is_of m d v)))
+        (λ l. sown.each v l ∙ ⊎_elim (λ t. absurd (n (is_home m d v t))) (λ f. cond-false (is_in m d v) (mark.Reached nil source.Start) mark.Blank f) (cases_Bool (is_in m d v)))
         (λ l. get_or_past labels v mark.Blank (omega (arith, l, sown.sized)))
         (cases_lt v m.places))
 
     unsettled_at : (v : ℕ) → v < m.places → weight (label_at (seen labels) v) ≡ 0
     unsettled_at v l = ap weight (view_at (start_at m) labels v ∙ ap (label_view (start_at m)) (sown.each v l))
-        ∙ cond_both (is_of m d v) (mark.Reached nil source.Start) mark.Blank (λ x. weight (label_view (start_at m) x) ≡ 0) (λ _. refl) (λ _. refl)
+        ∙ cond_both (is_in m d v) (mark.Reached nil source.Start) mark.Blank (λ x. weight (label_view (start_at m) x) ≡ 0) (λ _. refl) (λ _. refl)
 
     keeps_begun : (firsts : List (Option Place)) → length firsts ≡ 64 → ((j : ℕ) → first_at firsts j ≡ none) → Keeps 0 labels firsts
     keeps_begun firsts w n = record {

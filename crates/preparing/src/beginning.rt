@@ -3,7 +3,7 @@ ghost use Rattle.std.specs.Prelude.{◌≡◌, ◌≤◌, length, replicate};
 ghost use Rattle.fringe.specs.Fringes.{Emptied};
 ghost use Rattle.routes.specs.declared.labels.Label.TheVariants.{Blank};
 ghost use Rattle.halves.specs.Agreement.{Agree, Steady};
-ghost use Rattle.preparing.specs.Beginnings.{is_of, Sown, ReachedAt};
+ghost use Rattle.preparing.specs.Beginnings.{Sown, ReachedAt};
 
 use fringe::fringes::Fringe;
 use fringe::order::Order;
@@ -24,16 +24,6 @@ pub fn wipe<C: Order + Copy, F: Fringe<C>>(labels: &mut [Label<C>], fringe: &mut
     fringe.clear();
 }
 
-/// Whether the place is one of the district.
-pub fn inhabits<G: Map>(map: &G, district: District, place: Place) -> bool
-    ensures { result ≡ is_of (G.Map.model map.now) district.0 place.0 }
-{
-    match map.district(place) {
-        Some(own) => own.0 == district.0,
-        None => false,
-    }
-}
-
 /// Reaches a place as a start. A place that has no label is left alone.
 fn reach<C: Order + Copy, F: Fringe<C>>(
     labels: &mut [Label<C>],
@@ -44,7 +34,7 @@ fn reach<C: Order + Copy, F: Fringe<C>>(
     ensures reached { ReachedAt C.Order.thing C.Order.leq F.Fringe.well F.Fringe.meaning labels.old fringe.old place.0 cost labels.new fringe.new }
     ensures steady { F.Fringe.well fringe.old → Steady (F.Fringe.well fringe.new) (F.Fringe.meaning fringe.old) (F.Fringe.meaning fringe.new) }
 {
-    let i = usize::from(place.0);
+    let i = usize::from(place);
     if i < labels.len() {
         labels[i] = Label::Reached(cost, Origin::Start);
         let _ = fringe.put(place, cost);
@@ -65,7 +55,7 @@ pub fn begin<M: Measure + Copy, G: Map, F: Fringe<M>>(
     wipe(labels, fringe);
     for i in 0..map.places() {
         let place = Place(i as u16);
-        if inhabits(map, district, place) {
+        if map.is_in(district, place) {
             reach(labels, fringe, place, M::zero());
         }
     }

@@ -3,7 +3,6 @@ ghost use Rattle.std.specs.Prelude.{◌≡◌, ◌<◌};
 ghost use Rattle.measure.specs.Costs.{CostLaws};
 ghost use Rattle.preparing.specs.Entries.{Lowest, cost_or, OwnEntry, EntryBy, RowBy};
 
-use crate::beginning::inhabits;
 use crate::rooting::root_of;
 use fringe::order::Order;
 use fringe::place::Place;
@@ -28,11 +27,7 @@ fn written<M: Measure + Copy>(cost: M) -> u64
 fn cost_in<M: Measure + Copy>(label: Label<M>) -> M
     ensures { result ≡ cost_or M.Measure.top label }
 {
-    match label {
-        Label::Blank => M::blocked(),
-        Label::Reached(cost, _) => cost,
-        Label::Settled(cost, _) => cost,
-    }
+    label.cost().unwrap_or(M::blocked())
 }
 
 /// The entry of a district by its first settled place, if it has one.
@@ -57,7 +52,7 @@ fn lowest<G: Map>(map: &G, district: District) -> Option<Place>
 {
     for i in 0..map.places() {
         let place = Place(i as u16);
-        if inhabits(map, district, place) {
+        if map.is_in(district, place) {
             return Some(place);
         }
     }
@@ -92,7 +87,7 @@ pub fn fill<M: Measure + Copy, G: Map>(
     let own = own_entry::<M, G>(map, district);
     let mut row = [own; 64];
     for j in 0..64 {
-        if j != usize::from(district.0) {
+        if j != usize::from(district) {
             row[j] = entry_by(map, labels, firsts[j]);
         }
     }

@@ -6,20 +6,9 @@ ghost use Rattle.preparing.specs.Firsts.{number_in};
 ghost use Rattle.preparing.specs.Chains.{named, comes_from};
 
 use fringe::place::Place;
-use halves::label_at;
+use halves::{label_at, start_of};
 use map::maps::Map;
-use map::numbers::RoadId;
 use routes::labels::{Label, Origin};
-
-/// The place that a road starts at, and the place 0 where there is no such road.
-fn start_of<G: Map>(map: &G, number: RoadId) -> Place
-    ensures { result.0 ≡ start_at (G.Map.model map.now) number.0 }
-{
-    match map.road(number) {
-        Some(road) => road.start,
-        None => Place(0),
-    }
-}
 
 /// The place that an origin names, if it is not a start.
 fn place_in<G: Map>(map: &G, origin: Origin) -> Option<Place>
@@ -35,11 +24,7 @@ fn place_in<G: Map>(map: &G, origin: Origin) -> Option<Place>
 fn previous<C: Copy, G: Map>(map: &G, label: Label<C>) -> Option<Place>
     ensures { number_in result ≡ comes_from (label_view (start_at (G.Map.model map.now)) label) }
 {
-    match label {
-        Label::Blank => None,
-        Label::Reached(_, origin) => place_in(map, origin),
-        Label::Settled(_, origin) => place_in(map, origin),
-    }
+    place_in(map, label.origin()?)
 }
 
 /// The place that the chain of origins of `place` begins at.

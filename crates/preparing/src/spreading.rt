@@ -16,10 +16,7 @@ use routes::labels::Label;
 fn earlier(known: Option<Place>, place: Place) -> Option<Place>
     ensures { result ≡ sooner known place }
 {
-    match known {
-        Some(first) => Some(first),
-        None => Some(place),
-    }
+    known.or(Some(place))
 }
 
 /// Notes a settled place as the first of its district, unless one came before.
@@ -27,7 +24,7 @@ fn note<G: Map>(map: &G, place: Place, firsts: &mut [Option<Place>])
     ensures { firsts.new ≡ noted (G.Map.model map.now) place firsts.old }
 {
     if let Some(district) = map.district(place) {
-        let j = usize::from(district.0);
+        let j = usize::from(district);
         if j < firsts.len() {
             firsts[j] = earlier(firsts[j], place);
         }
@@ -46,13 +43,11 @@ pub fn spread<M: Measure + Copy, G: Map, F: Fringe<M>>(
     ensures steady { F.Fringe.well fringe.old → Steady (F.Fringe.well fringe.new) (F.Fringe.meaning fringe.old) (F.Fringe.meaning fringe.new) }
 {
     for taken in 0..labels.len() {
-        match settle_least(labels, fringe) {
-            Some(best) => {
-                note(map, best.0, firsts);
-                expand(map, best.0, best.1, labels, fringe);
-            }
-            None => return taken,
-        }
+        let Some(best) = settle_least(labels, fringe) else {
+            return taken;
+        };
+        note(map, best.0, firsts);
+        expand(map, best.0, best.1, labels, fringe);
     }
     labels.len()
 }

@@ -1,9 +1,6 @@
 -- Lists of places with a route in front.
-use Rattle.std.specs.Prelude.{◌≡◌, ℕ, ◌≤◌, List, [], ◌∷◌, length, take, drop, Some, None, Option}
+use Rattle.std.specs.Prelude.{◌≡◌, ℕ, ◌≤◌, List, [], ◌∷◌, length, take, drop}
 use Rattle.fringe.specs.declared.place.Place.{Place}
-use Rattle.routes.specs.declared.labels.Origin.{Origin}
-use Rattle.routes.specs.declared.labels.Label.{Label}
-use Rattle.routes.specs.declared.labels.Label.TheVariants.{Blank, Reached, Settled}
 
 -- The places of a list by their numbers.
 abbrev pub numbers : List Place → List ℕ

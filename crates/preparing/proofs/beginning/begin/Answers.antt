@@ -4,7 +4,7 @@ use Rattle.routes.specs.declared.labels.Label.TheVariants.{Blank}
 use Rattle.preparing.specs.Beginnings.{Sown}
 use Rattle.preparing.proofs.Sowing.{sowing_same, sowing_none, sowing_past, sowing_on, sowing_all}
 use Rattle.preparing.proofs.beginning.begin.Goals as goal
-use Rattle.preparing.proofs.beginning.begin.Goals.{then-inhabits, else-inhabits}
+use Rattle.preparing.proofs.beginning.begin.Goals.{then-is_in, else-is_in}
 
 pub loop-i-init : goal.loop-i-init
 loop-i-init g c =
@@ -14,11 +14,11 @@ loop-i-init g c =
 
 pub loop-i-preserved : goal.loop-i-preserved
 loop-i-preserved g c =
-    elim c.if-inhabits.branch [
-      | then-inhabits w ↦ sowing_same _ _ _ _ _ _ _ _ _ w.labels-is w.fringe-is
-          (sowing_on _ _ _ _ _ _ _ _ _ c.loop-i.invariant w.zero.result w.zero.ensures.exact (sym w.if-inhabits.ensures) w.reach.ensures.reached w.reach.ensures.steady)
-      | else-inhabits w ↦ sowing_same _ _ _ _ _ _ _ _ _ w.labels-is w.fringe-is
-          (sowing_past _ _ _ _ _ _ _ _ _ c.loop-i.invariant (sym w.if-inhabits.ensures))
+    elim c.if-is_in.branch [
+      | then-is_in w ↦ sowing_same _ _ _ _ _ _ _ _ _ w.labels-is w.fringe-is
+          (sowing_on _ _ _ _ _ _ _ _ _ c.loop-i.invariant w.zero.result w.zero.ensures.exact (sym w.if-is_in.ensures) w.reach.ensures.reached w.reach.ensures.steady)
+      | else-is_in w ↦ sowing_same _ _ _ _ _ _ _ _ _ w.labels-is w.fringe-is
+          (sowing_past _ _ _ _ _ _ _ _ _ c.loop-i.invariant (sym w.if-is_in.ensures))
     ]
 
 pub returns : goal.returns

@@ -4,11 +4,11 @@ use Rattle.preparing.proofs.Homes.{is_home, not_home}
 use Rattle.preparing.proofs.filling.lowest.Goals as goal
 
 pub loop-i-preserved : goal.loop-i-preserved
-loop-i-preserved g c = below_more _ _ c.loop-i.invariant (not_home _ _ _ (sym c.if-inhabits.ensures))
+loop-i-preserved g c = below_more _ _ c.loop-i.invariant (not_home _ _ _ (sym c.if-is_in.ensures))
 
-pub returns-then-inhabits : goal.returns-then-inhabits
-returns-then-inhabits g c = record {
-  inhabits = is_home _ _ _ (sym c.if-inhabits.ensures);
+pub returns-then-is_in : goal.returns-then-is_in
+returns-then-is_in g c = record {
+  inhabits = is_home _ _ _ (sym c.if-is_in.ensures);
   lowest = λ a h. ⊎_elim (λ l. absurd (c.loop-i.invariant a l h)) (λ l. l) (cases_lt a c.loop-i.i);
 }
 

@@ -16,9 +16,9 @@ loop-taken-preserved g c =
       (λ w. steady_on (steady_on (c.loop-taken.invariant.1 w) s.steady) c.expand.ensures.steady),
     )
 
-pub returns-in-None : goal.returns-in-None
-returns-in-None g c =
-    let s = c.in-None.ensures in
+pub returns-in_default : goal.returns-in_default
+returns-in_default g c =
+    let s = c.in_default.ensures in
     record {
       ran = λ a. let was = c.loop-taken.invariant.0 a in ran_out _ _ _ _ _ _ _ was.0 (s.labels was.1) (omega arith);
       steady = λ w. steady_on (c.loop-taken.invariant.1 w) s.steady;

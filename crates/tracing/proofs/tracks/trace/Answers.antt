@@ -14,24 +14,24 @@ returns-in-Start g c =
       within = omega (arith, l, c.loop-i.auto.list);
       listed = λ n short.
           traced_last (start_at (g.G.Map.model c.args.map.now)) c.args.labels.now n c.args.from.0 short (c.loop-i.invariant n short) l c.loop-i.at refl
-          (sym (c.in-Some.is ∙ ap Some c.in-Start.is) ∙ c.origin_of.ensures ∙ ap origin_in c.label_at.ensures);
+          (sym (c.in-Some.is ∙ ap Some c.in-Start.is) ∙ c.origin.ensures ∙ ap origin_in c.label_at.ensures);
     }
 
-pub returns-in-None : goal.returns-in-None
-returns-in-None g c =
+pub returns-in_default : goal.returns-in_default
+returns-in_default g c =
     let l : c.loop-i.i < length c.loop-i.list = omega (arith, c.loop-i-test.true, c.loop-i.auto.list) in
     record {
       within = omega (arith, l, c.loop-i.auto.list);
       listed = λ n short.
           traced_stop (start_at (g.G.Map.model c.args.map.now)) c.args.labels.now n c.args.from.0 short (c.loop-i.invariant n short)
-          (c.in-None.ensures ∙ ap origin_in c.label_at.ensures);
+          (c.in_default.ensures ∙ ap origin_in c.label_at.ensures);
     }
 
 pub loop-i-preserved : goal.loop-i-preserved
 loop-i-preserved g c = λ n short.
     traced_on (start_at (g.G.Map.model c.args.map.now)) c.args.labels.now n c.args.from.0 short (c.loop-i.invariant n short)
     (omega (arith, c.loop-i-test.true, c.loop-i.auto.list)) c.loop-i.at refl c.in-Road.road
-    (sym (c.in-Some.is ∙ ap Some c.in-Road.is) ∙ c.origin_of.ensures ∙ ap origin_in c.label_at.ensures) c.start_of-at.result.0 c.start_of-at.ensures
+    (sym (c.in-Some.is ∙ ap Some c.in-Road.is) ∙ c.origin.ensures ∙ ap origin_in c.label_at.ensures) c.start_of-at.result.0 c.start_of-at.ensures
 
 pub returns : goal.returns
 returns g c = record {
