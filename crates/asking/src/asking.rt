@@ -19,8 +19,7 @@ use halves::blank;
 use map::maps::Map;
 use measure::measures::Measure;
 use routes::labels::Label;
-use search::search;
-use table::Table;
+use search::{Question, search};
 use tracing::write_route;
 use turns::Findings;
 
@@ -47,13 +46,8 @@ fn tell<M: Measure + Copy, G: Map>(
 
 /// Answers the question for the least-cost route from the start to the goal, and writes the route into the list. At the end
 /// all labels are blank and both fringes are empty.
-pub fn ask<'a, M: Measure + Copy, G: Map, B: Map, F: Fringe<M>, N: Fringe<M>>(
-    map: &G,
-    base: &'a B,
-    table: &'a Table,
-    pairs: bool,
-    start: Place,
-    goal: Place,
+pub fn ask<M: Measure + Copy, G: Map, B: Map, F: Fringe<M>, N: Fringe<M>>(
+    asked: &Question<G, B>,
     fore: &mut [Label<M>],
     near: &mut F,
     back: &mut [Label<M>],
@@ -67,10 +61,10 @@ pub fn ask<'a, M: Measure + Copy, G: Map, B: Map, F: Fringe<M>, N: Fringe<M>>(
     ensures far { Emptied (N.Fringe.meaning far.old) (N.Fringe.meaning far.new) }
     ensures far_well { N.Fringe.well far.new }
     ensures laws { CostLaws M.Order.thing M.Order.leq M.Measure.plus M.Measure.nil M.Measure.top M.Measure.cost M.Measure.code }
-    ensures answer { Asked (G.Map.model map.now) (B.Map.model base.now).places start.0 goal.0 (length fore.old) (length back.old) (F.Fringe.meaning near.old).capacity (N.Fringe.meaning far.old).capacity → (G.Map.model map.now).places ≤ length list.old → Answers (answer (ops_of M.Order.thing M.Order.leq M.Measure.plus M.Measure.nil M.Measure.top) (given M.Measure.nil M.Measure.cost (G.Map.model map.now) (B.Map.model base.now) (stored M.Measure.decoded table.now) pairs) start.0 goal.0) list.old list.new result }
+    ensures answer { Asked (G.Map.model asked.now.map.now) (B.Map.model asked.now.base.now).places asked.now.start.0 asked.now.goal.0 (length fore.old) (length back.old) (F.Fringe.meaning near.old).capacity (N.Fringe.meaning far.old).capacity → (G.Map.model asked.now.map.now).places ≤ length list.old → Answers (answer (ops_of M.Order.thing M.Order.leq M.Measure.plus M.Measure.nil M.Measure.top) (given M.Measure.nil M.Measure.cost (G.Map.model asked.now.map.now) (B.Map.model asked.now.base.now) (stored M.Measure.decoded asked.now.table.now) asked.now.pairs) asked.now.start.0 asked.now.goal.0) list.old list.new result }
 {
-    let found = search(map, base, table, pairs, start, goal, fore, near, back, far);
-    let way = tell(map, fore, back, found, list);
+    let found = search(asked, fore, near, back, far);
+    let way = tell(asked.map, fore, back, found, list);
     blank(fore);
     blank(back);
     near.clear();

@@ -13,6 +13,7 @@ use histories::refusals::Refusal;
 use map::maps::Map;
 use measure::measures::Measure;
 use routes::labels::Label;
+use search::Question;
 
 /// The lengths of the memory that a question is lent.
 #[derive(Clone, Copy)]
@@ -29,7 +30,7 @@ fn may_ask<G: Map>(base: &G, start: Place, goal: Place, room: Room) -> Result<()
     ensures { result ≡ verdict (question_refusal (G.Map.model base.now) start.0 goal.0 room.fore room.back room.near room.far room.list) }
 {
     let n = base.places();
-    if usize::from(start.0) >= n || usize::from(goal.0) >= n {
+    if usize::from(start) >= n || usize::from(goal) >= n {
         return Err(Refusal::NoSuchPlace);
     }
     if room.fore < n || room.back < n {
@@ -79,19 +80,14 @@ impl<M: Measure + Copy, G: Map> Unit<M, G> {
         };
         may_ask(&self.map.below.below, start, goal, room)?;
         let n = self.map.below.below.places();
-        let pairs = self.is_untouched();
-        Ok(ask(
-            &self.map,
-            &self.map.below.below,
-            &self.table,
-            pairs,
+        let asked = Question {
+            map: &self.map,
+            base: &self.map.below.below,
+            table: &self.table,
+            pairs: self.is_untouched(),
             start,
             goal,
-            &mut fore[0..n],
-            near,
-            &mut back[0..n],
-            far,
-            list,
-        ))
+        };
+        Ok(ask(&asked, &mut fore[0..n], near, &mut back[0..n], far, list))
     }
 }

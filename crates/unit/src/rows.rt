@@ -26,7 +26,7 @@ fn may_prepare<G: Map>(
 ) -> Result<(), Refusal>
     ensures { result ≡ verdict (prepare_refusal (G.Map.model base.now) district.0 first second capacity) }
 {
-    if usize::from(district.0) >= base.districts() {
+    if usize::from(district) >= base.districts() {
         return Err(Refusal::NoSuchDistrict);
     }
     let n = base.places();

@@ -17,10 +17,10 @@ returns g c = record {
   answer = λ a room.
       let o = g.M.Order in
       let k = g.M.Measure in
-      let m = g.G.Map.model c.args.map.now in
+      let m = g.G.Map.model c.args.asked.now.map.now in
       let left = c.search-found.ensures.left a in
       let x = search_best (ops_of o.thing o.leq k.plus k.nil k.top)
-      (given k.nil k.cost m (g.B.Map.model c.args.base.now) (stored k.decoded c.args.table.now) c.args.pairs) c.args.start.0 c.args.goal.0 in
+      (given k.nil k.cost m (g.B.Map.model c.args.asked.now.base.now) (stored k.decoded c.args.asked.now.table.now) c.args.asked.now.pairs) c.args.asked.now.start.0 c.args.asked.now.goal.0 in
       record {
         tells = c.tell-way.ensures m.places x left (c.search-found.ensures.halved a.start_known a.goal_known) room;
         expanded = sym left.expansions;

@@ -52,7 +52,7 @@ returns g c =
     let ok = may_ask base s t (length fore) (length back) near far (length c.args.list.now) none in
     let asked = may_search base (map_now base u) refl s t fore back near far (length c.args.list.now) ok c.places-n.result c.places-n.ensures in
     let answers = subst (λ b. Answers (answer (ops_of o.thing o.leq k.plus k.nil k.top) (given k.nil k.cost (map_now base u) base (stored k.decoded u.table) b) s t)
-    c.args.list.now c.ask.new.list c.ask.result) c.is_untouched-pairs.ensures (c.ask.ensures.answer asked ok.list_room) in
+    c.args.list.now c.ask.new.list c.ask.result) c.is_untouched.ensures (c.ask.ensures.answer asked ok.list_room) in
     record {
       rules = question_answered base rules c.places-n.result c.places-n.ensures fore back ok.fore_room ok.back_room c.ask.new.fore c.ask.new.back c.ask.ensures.fore c.ask.ensures.back
           g.F.Fringe.well g.F.Fringe.meaning g.N.Fringe.well g.N.Fringe.meaning c.args.near.now c.ask.new.near c.args.far.now c.ask.new.far
