@@ -12,7 +12,7 @@ use Rattle.layers.specs.Slowdowns.{LeftBy as SlowdownsLeftBy}
 use Rattle.routes.specs.Prepared.{RowHolds}
 use Rattle.table.specs.declared.entry.Entry.{Entry}
 use Rattle.table.specs.declared.tables.Table.{Table}
-use Rattle.table.specs.Entries.{in_column, is_prepared, entry_at, Filled}
+use Rattle.table.specs.Entries.{row_at, entries_of, in_column, is_prepared, entry_at, Filled}
 use Rattle.table.specs.Views.{cost_in, pair_in, row_costs, row_pairs, stored}
 use Rattle.histories.specs.declared.calls.Call.{Call}
 use Rattle.histories.specs.declared.calls.Call.TheVariants.{Prepare, Question}
@@ -21,7 +21,7 @@ use Rattle.histories.specs.Histories.{is_row_prepared, LeftBy}
 -- ---- rows
 -- a row is prepared exactly where it has an entry in its first column
 pub prepared_is : (t : Table) (i : ℕ) → is_some (entry_at t i 0) ≡ is_prepared t i
-prepared_is t i = elim (is_prepared t i) as (λ b. is_some (cond b (in_column (get_or t.rows i []) 0) None) ≡ b) [ true ↦ refl | false ↦ refl ]
+prepared_is t i = elim (is_prepared t i) as (λ b. is_some (cond b (in_column (entries_of (row_at t i)) 0) None) ≡ b) [ true ↦ refl | false ↦ refl ]
 
 some_either : (b : Bool) (row : List Entry) (o : Option Entry) → is_some (cond b (in_column row 0) o) ≡ (b || is_some o)
 some_either true row o = refl

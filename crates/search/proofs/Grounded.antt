@@ -8,7 +8,7 @@ use Rattle.map.specs.Model.{MapModel, WellFormed}
 use Rattle.map.specs.Turned.{reversed, turned_round}
 use Rattle.table.specs.declared.entry.Entry.{Entry}
 use Rattle.table.specs.declared.tables.Table.{Table}
-use Rattle.table.specs.Entries.{is_prepared, entry_at, no_entry}
+use Rattle.table.specs.Entries.{row_at, is_prepared, entries_of, entry_at, no_entry}
 use Rattle.table.specs.Views.{pair_in, cost_in, stored}
 use Rattle.routes.specs.Search.{Given, flip}
 use Rattle.routes.specs.Rows.{Row, look}
@@ -35,8 +35,8 @@ module _ {K : Type 0} (price : ℕ → ℕ → K) where
 
 -- an entry of a row, prepared or not
 module _ {K : Type 0} (zero : K) (decoded : ℕ → K) (table : Table) (i j : ℕ) (l : j < 64) where
-  entry_is : (b : Bool) → is_prepared table i ≡ b → entry_at table i j ≡ cond b (Some (get_or (get_or table.rows i []) j no_entry)) None
-  entry_is b e = ap₂ (λ z w. cond z w None) e (cond-true (ltb j 64) (Some (get_or (get_or table.rows i []) j no_entry)) None (lt-ltb j 64 l))
+  entry_is : (b : Bool) → is_prepared table i ≡ b → entry_at table i j ≡ cond b (Some (get_or (entries_of (row_at table i)) j no_entry)) None
+  entry_is b e = ap₂ (λ z w. cond z w None) e (cond-true (ltb j 64) (Some (get_or (entries_of (row_at table i)) j no_entry)) None (lt-ltb j 64 l))
 
   cost_read : cost_ahead zero decoded (entry_at table i j) ≡ elim (is_prepared table i) [ true ↦ cost_in decoded (entry_at table i j) | false ↦ zero ]
   cost_read = by (is_prepared table i) refl
@@ -50,7 +50,7 @@ module _ {K : Type 0} (zero : K) (decoded : ℕ → K) (table : Table) (i j : �
   pair_read way pairs = by (is_prepared table i) refl pairs way
     where
       e' : Entry
-      e' = get_or (get_or table.rows i []) j no_entry
+      e' = get_or (entries_of (row_at table i)) j no_entry
 
       by : (b : Bool) → is_prepared table i ≡ b → (p : Bool) (w : Way) → pair_ahead w p (entry_at table i j) ≡ facing w (elim (b && p) as (λ _. Maybe (ℕ × ℕ)) [ true ↦ pair_in (entry_at table i j) | false ↦ none ])
       by true e true w = ap (pair_ahead w true) (entry_is true e) ∙ sym (ap (λ z. facing w (pair_in z)) (entry_is true e))

@@ -1,5 +1,5 @@
 //! The rows of the table.
-ghost use Rattle.std.specs.Prelude.{◌≡◌, ℕ, false, None, slice_index_or};
+ghost use Rattle.std.specs.Prelude.{◌≡◌, ℕ, None, slice_index_or};
 ghost use Rattle.table.specs.Entries.{entry_at, Filled};
 
 use crate::entry::Entry;
@@ -8,18 +8,17 @@ use map::numbers::District;
 /// How many districts the table has room for.
 const DISTRICTS: usize = 64;
 
-/// A row of entries for each district, and whether the row is prepared. What a row holds before counts for nothing.
+/// For each district the entries from it to every district, once its row is prepared.
 #[derive(Drop)]
 pub struct Table {
-    rows: [[Entry; 64]; 64],
-    prepared: [bool; 64],
+    rows: [Option<[Entry; 64]>; 64],
 }
 
-/// The marks of a new table.
-fn none_prepared() -> [bool; 64]
-    ensures { (i : ℕ) → slice_index_or result i false ≡ false }
+/// The rows of a new table.
+fn none_prepared() -> [Option<[Entry; 64]>; 64]
+    ensures { (i : ℕ) → slice_index_or result i None ≡ None }
 {
-    [false; DISTRICTS]
+    [None; DISTRICTS]
 }
 
 impl Table {
@@ -27,13 +26,8 @@ impl Table {
     pub fn new() -> Table
         ensures { (i j : ℕ) → entry_at result i j ≡ None }
     {
-        let blank = Entry {
-            number: 0,
-            pair: None,
-        };
         Table {
-            rows: [[blank; DISTRICTS]; DISTRICTS],
-            prepared: none_prepared(),
+            rows: none_prepared(),
         }
     }
 
@@ -41,25 +35,17 @@ impl Table {
     pub fn entry(&self, from: District, to: District) -> Option<Entry>
         ensures { result ≡ entry_at self.now from.0 to.0 }
     {
-        let row = usize::from(from.0);
-        let column = usize::from(to.0);
-        if row >= DISTRICTS || column >= DISTRICTS {
-            return None;
-        }
-        if !self.prepared[row] {
-            return None;
-        }
-        Some(self.rows[row][column])
+        let row = self.rows.get(usize::from(from))?.as_ref()?;
+        row.get(usize::from(to)).copied()
     }
 
     /// Puts the entries into a row, which is prepared from now on. A number out of range changes nothing.
     pub fn fill(&mut self, row: District, entries: &[Entry; 64])
         ensures { Filled self.old self.new row.0 entries.now }
     {
-        let row = usize::from(row.0);
+        let row = usize::from(row);
         if row < DISTRICTS {
-            self.rows[row] = *entries;
-            self.prepared[row] = true;
+            self.rows[row] = Some(*entries);
         }
     }
 }

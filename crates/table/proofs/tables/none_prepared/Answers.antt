@@ -1,5 +1,5 @@
-use Rattle.table.proofs.Reading.{new_row}
+use Rattle.table.proofs.Blank.{no_row}
 use Rattle.table.proofs.tables.none_prepared.Goals as goal
 
 pub returns : goal.returns
-returns c = new_row
+returns c = no_row
