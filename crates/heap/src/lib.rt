@@ -6,19 +6,17 @@
 #![tactic(auto)]
 
 ghost use Rattle.std.specs.Prelude.{◌≡◌, ◌<◌, ◌≤◌, min, not, length, Some, None, Ok};
+ghost use Rattle.fringe.specs.Entries.{ahead};
 ghost use Rattle.fringe.specs.Fringes.{Empty, Put, First, Taken};
-ghost use Rattle.heap.specs.Heaps.{InOrder, entry_at, entry_leq, meaning_of, place_of};
+ghost use Rattle.heap.specs.Heaps.{InOrder, entry_at, meaning_of, place_of};
 ghost use Rattle.heap.specs.Indexes.{Inside, There, Indexed, Found, Noted};
 ghost use Rattle.heap.specs.Bounds.{bounded_of};
 ghost use Rattle.heap.specs.Sifts.{FirstChild, Swapped, Reordered, UpTo, DownFrom};
 
-use fringe::{Fringe, Order, Place, Refusal};
+use fringe::{Fringe, MOST_PLACES, Order, Place, Refusal, precedes};
 
 #[cfg(test)]
 mod tests;
-
-/// A heap takes at most this many places.
-const MOST_PLACES: usize = 1024;
 
 /// Places with their costs, in lent memory. The least is found at once; putting and taking are logarithmic.
 #[derive(Drop)]
@@ -185,7 +183,7 @@ impl<'a, C: Order + Copy> Rows<'a, C> {
         let mut child = start;
         while child > 0 {
             let parent = (child - 1) / 2;
-            if !is_before(self.entries[child], self.entries[parent]) {
+            if !self.is_before(child, parent) {
                 return;
             }
             self.swap(child, parent);
@@ -201,7 +199,7 @@ impl<'a, C: Order + Copy> Rows<'a, C> {
     {
         let mut parent = 0;
         while let Some(child) = self.first_child(parent) {
-            if !is_before(self.entries[child], self.entries[parent]) {
+            if !self.is_before(child, parent) {
                 return;
             }
             self.swap(child, parent);
@@ -215,16 +213,25 @@ impl<'a, C: Order + Copy> Rows<'a, C> {
         requires indexed { Indexed self.now }
         ensures { FirstChild C.Order.thing C.Order.leq self.now parent result }
     {
-        let entries = &*self.entries;
         let left = 2 * parent + 1;
         if left >= self.len {
             return None;
         }
         let right = left + 1;
-        if right < self.len && is_before(entries[right], entries[left]) {
+        if right < self.len && self.is_before(right, left) {
             return Some(right);
         }
         Some(left)
+    }
+
+    /// Whether the entry at `i` comes before the one at `j`.
+    fn is_before(&self, i: usize, j: usize) -> bool
+        requires counts { (i < self.now.len) × (j < self.now.len) }
+        requires indexed { Indexed self.now }
+        ensures { (d : _) → result ≡ not (ahead C.Order.thing C.Order.leq (entry_at self.now d j) (entry_at self.now d i)) }
+    {
+        let entries = &*self.entries;
+        precedes(&entries[i], &entries[j])
     }
 
     /// Exchanges two entries.
@@ -249,17 +256,4 @@ impl<'a, C: Order + Copy> Rows<'a, C> {
         let entry = self.entries[position];
         self.positions[usize::from(entry.0.0)] = position as u16;
     }
-}
-
-/// Whether an entry comes before another: by its cost, and of equal costs by its place.
-fn is_before<C: Order + Copy>(a: (Place, C), b: (Place, C)) -> bool
-    ensures { result ≡ not (entry_leq C.Order.thing C.Order.leq b a) }
-{
-    if a.1.less(&b.1) {
-        return true;
-    }
-    if b.1.less(&a.1) {
-        return false;
-    }
-    a.0.0 < b.0.0
 }

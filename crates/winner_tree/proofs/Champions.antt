@@ -5,9 +5,11 @@ use Rattle.std.proofs.lemmas.Bool.{cases_eq, cases_lt, cond_both, cond-true, con
 use Rattle.std.proofs.lemmas.Bool.Decides.{nat_tests}
 use Rattle.std.specs.Option.{option_map}
 use Rattle.fringe.specs.Orders.{TotalOrder}
+use Rattle.fringe.specs.Entries.{ahead}
 use Rattle.fringe.specs.Fringes.{Least}
+use Rattle.fringe.proofs.Ranks.{Ranked, entries_ranked, costs_leq, costs_less}
 use Rattle.fringe.specs.declared.place.Place.{Place}
-use Rattle.winner_tree.specs.Tournaments.{meaning_of, entrant, out_of, champion_of, ahead, winner_of, Decided, InOrder}
+use Rattle.winner_tree.specs.Tournaments.{meaning_of, entrant, out_of, champion_of, winner_of, Decided, InOrder}
 use Rattle.winner_tree.proofs.Replays.{out_leaf, out_high}
 
 pub never : {A : Type 0} {x : Option A} {a : A} → x ≡ None → x ≡ Some a → ⊥
@@ -23,25 +25,8 @@ entrant_none p None same = refl
 entrant_none p (Some c) same = absurd (never same refl)
 
 module _ {C T : Type 0} (thing : C → T) {leq : T → T → Bool} (o : TotalOrder leq) where
-  -- `ahead` is a total order of places with their costs.
-  ahead_self : (a : Place × C) → ahead thing leq a a ≡ true
-  ahead_self a = let r = o.refl_leq (thing a.1) in grind (arith, nat_tests)
-
-  ahead_chain : (a b c : Place × C) → ahead thing leq a b ≡ true → ahead thing leq b c ≡ true → ahead thing leq a c ≡ true
-  ahead_chain a b c p q =
-      let t = o.trans_leq (thing a.1) (thing b.1) (thing c.1) in
-      let u = o.trans_leq (thing c.1) (thing a.1) (thing b.1) in
-      let v = o.trans_leq (thing b.1) (thing c.1) (thing a.1) in
-      grind (arith, nat_tests)
-
-  ahead_total : (a b : Place × C) → ahead thing leq a b ≡ false → ahead thing leq b a ≡ true
-  ahead_total a b p = let t = o.total_leq (thing a.1) (thing b.1) in grind (arith, nat_tests)
-
-  ahead_leq : (a b : Place × C) → ahead thing leq a b ≡ true → leq (thing a.1) (thing b.1) ≡ true
-  ahead_leq a b p = grind (arith, nat_tests)
-
-  ahead_less : (a b : Place × C) → ahead thing leq a b ≡ true → b.0.0 < a.0.0 → leq (thing b.1) (thing a.1) ≡ false
-  ahead_less a b p lower = grind (arith, nat_tests)
+  ranked : Ranked (ahead thing leq)
+  ranked = entries_ranked thing o
 
   -- Whether x is ahead of y, where nobody is behind everybody.
   abbrev leads : Option (Place × C) → Option (Place × C) → Bool
@@ -56,7 +41,7 @@ module _ {C T : Type 0} (thing : C → T) {leq : T → T → Bool} (o : TotalOrd
 
   leads_self : (x : Option (Place × C)) → leads x x ≡ true
   leads_self None = refl
-  leads_self (Some a) = ahead_self a
+  leads_self (Some a) = ranked.same a
 
   leads_chain : (x y z : Option (Place × C)) → leads x y ≡ true → leads y z ≡ true → leads x z ≡ true
   leads_chain None None z p q = q
@@ -64,18 +49,18 @@ module _ {C T : Type 0} (thing : C → T) {leq : T → T → Bool} (o : TotalOrd
   leads_chain None (Some b) (Some c) p q = p
   leads_chain (Some a) y None p q = refl
   leads_chain (Some a) None (Some c) p q = absurd (let z : ◌≡◌ {A = Bool} false true = q in grind (arith, nat_tests))
-  leads_chain (Some a) (Some b) (Some c) p q = ahead_chain a b c p q
+  leads_chain (Some a) (Some b) (Some c) p q = ranked.chain a b c p q
 
   leads_left : (x y : Option (Place × C)) → leads (winner_of thing leq x y) x ≡ true
   leads_left None None = refl
   leads_left None (Some b) = refl
-  leads_left (Some a) None = ahead_self a
-  leads_left (Some a) (Some b) = cond_both (ahead thing leq a b) (Some a) (Some b) (λ w. leads w (Some a) ≡ true) (λ e. ahead_self a) (λ e. ahead_total a b e)
+  leads_left (Some a) None = ranked.same a
+  leads_left (Some a) (Some b) = cond_both (ahead thing leq a b) (Some a) (Some b) (λ w. leads w (Some a) ≡ true) (λ e. ranked.same a) (λ e. ranked.total a b e)
 
   leads_right : (x y : Option (Place × C)) → leads (winner_of thing leq x y) y ≡ true
   leads_right None y = leads_self y
   leads_right (Some a) None = refl
-  leads_right (Some a) (Some b) = cond_both (ahead thing leq a b) (Some a) (Some b) (λ w. leads w (Some b) ≡ true) (λ e. e) (λ e. ahead_self b)
+  leads_right (Some a) (Some b) = cond_both (ahead thing leq a b) (Some a) (Some b) (λ w. leads w (Some b) ≡ true) (λ e. e) (λ e. ranked.same b)
 
   -- The winner is one of the two.
   one_of : (x y : Option (Place × C)) → (winner_of thing leq x y ≡ x) ⊎ (winner_of thing leq x y ≡ y)
@@ -140,8 +125,8 @@ module _ {C T : Type 0} (thing : C → T) {leq : T → T → Bool} (o : TotalOrd
     root_first None some won = none_held won
     root_first (Some r) some won = record {
       there = ap (option_map thing) (from_leaf (2 * length costs) 1 r (omega arith) (omega arith) (omega arith) (sym won));
-      least = λ q d held. ahead_leq r (record { 0 = q }, d) (ahead_all r won q d held);
-      lowest = λ q d held lower. ahead_less r (record { 0 = q }, d) (ahead_all r won q d held) lower;
+      least = λ q d held. costs_leq thing leq r (record { 0 = q }, d) (ahead_all r won q d held);
+      lowest = λ q d held lower. costs_less thing leq r (record { 0 = q }, d) (ahead_all r won q d held) lower;
     }
 
     -- The winner is what a fringe with this row of costs has for its least.

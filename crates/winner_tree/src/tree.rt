@@ -1,15 +1,11 @@
 //! The winner tree.
-ghost use Rattle.std.specs.Prelude.{◌≡◌, ℕ, ◌*◌, ◌/◌, ◌<◌, ◌≤◌, not, length, None, slice_index_or, slice_set};
+ghost use Rattle.std.specs.Prelude.{◌≡◌, ℕ, ◌*◌, ◌/◌, ◌<◌, ◌≤◌, length, None, slice_index_or, slice_set};
 ghost use Rattle.std.proofs.lemmas.List.{get_or_past};
 ghost use Rattle.fringe.specs.Fringes.{Empty, lowered};
-ghost use Rattle.winner_tree.specs.Tournaments.{capacity_of, meaning_of, entrant, out_of, champion_of, ahead, winner_of, match_at, cheaper, InOrder, InOrderBut};
+ghost use Rattle.winner_tree.specs.Tournaments.{capacity_of, meaning_of, entrant, out_of, champion_of, winner_of, match_at, cheaper, InOrder, InOrderBut};
 
-use fringe::fringes::{Fringe, Refusal};
-use fringe::order::Order;
-use fringe::place::Place;
-
-/// The most places that a winner tree takes.
-pub const MOST_PLACES: usize = 1024;
+pub use fringe::MOST_PLACES;
+use fringe::{Fringe, Order, Place, Refusal, precedes};
 
 /// A fringe over two lent slices, in which the places that are held play a tournament for being the least.
 ///
@@ -201,19 +197,6 @@ impl<'a, C: Order + Copy> Rows<'a, C> {
     {
         self.write(p, None);
     }
-}
-
-/// Whether `a` comes before `b`: by the cost, and of equal costs by the place.
-fn precedes<C: Order>(a: &(Place, C), b: &(Place, C)) -> bool
-    ensures { result ≡ not (ahead C.Order.thing C.Order.leq b.now a.now) }
-{
-    if a.1.less(&b.1) {
-        return true;
-    }
-    if b.1.less(&a.1) {
-        return false;
-    }
-    a.0.0 < b.0.0
 }
 
 /// The winner of a match, for which either side may be missing.

@@ -1,8 +1,6 @@
 use Rattle.std.proofs.Common.{◌+◌, ◌*◌, sym, arith}
 use borrow.Author.Tests.{not-true, not-false}
-use Rattle.heap.specs.Heaps.{entry_leq}
-use Rattle.heap.proofs.Entries.{tested_read}
-use Rattle.heap.proofs.Ranks.{entries_ranked}
+use Rattle.fringe.proofs.Ranks.{entries_ranked}
 use Rattle.heap.proofs.Sinks.{first_of_two}
 use Rattle.heap.proofs.Rows.first_child.Goals as goal
 use Rattle.heap.proofs.Rows.first_child.Goals.{else-right-self-via-then-right-self+else-is_before, else-right-self-via-else-right-self}
@@ -10,14 +8,10 @@ use Rattle.heap.proofs.Rows.first_child.Goals.{else-right-self-via-then-right-se
 pub returns-then-is_before : goal.returns-then-is_before
 returns-then-is_before g c =
     let o = g.C.Order in
-    let ranked = entries_ranked o.thing g.met.C.Order.ordered in
     let left = 2 * c.args.parent + 1 in
     first_of_two o.thing g.met.C.Order.ordered c.args.self.now c.args.parent (left + 1) left (omega arith) (omega arith) c.if-right-self.true
     (λ k z e x. omega (arith, x))
-    (λ d h. ranked.total _ _
-    (tested_read c.requires.indexed (entry_leq o.thing o.leq) left (left + 1) c.index-entries-left.result c.index-entries-right.result d
-    h c.if-right-self.true c.index-entries-left.is c.index-entries-right.is
-    (not-true _ (sym c.if-is_before.ensures))))
+    (λ d h. (entries_ranked o.thing g.met.C.Order.ordered).total _ _ (not-true _ (sym (c.if-is_before.ensures d))))
 
 pub returns : goal.returns
 returns g c =
@@ -26,9 +20,6 @@ returns g c =
     first_of_two o.thing g.met.C.Order.ordered c.args.self.now c.args.parent left (left + 1) (omega arith) (omega arith) c.if-left-self.false
     (λ k z e x. omega (arith, x))
     (λ d h. elim c.else-right-self.branch [
-      | else-right-self-via-then-right-self+else-is_before w ↦
-          tested_read c.requires.indexed (entry_leq o.thing o.leq) left (left + 1) w.index-entries-left.result w.index-entries-right.result d
-          c.if-left-self.false h w.index-entries-left.is w.index-entries-right.is
-          (not-false _ (sym w.if-is_before.ensures))
+      | else-right-self-via-then-right-self+else-is_before w ↦ not-false _ (sym (w.if-is_before.ensures d))
       | else-right-self-via-else-right-self w ↦ absurd (let l = w.if-right-self in omega arith)
     ])

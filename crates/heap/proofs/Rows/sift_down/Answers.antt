@@ -1,47 +1,38 @@
 use Rattle.std.proofs.Common.{sym, arith}
 use borrow.Author.Tests.{not-true, not-false}
-use Rattle.heap.specs.Heaps.{entry_leq}
-use Rattle.heap.proofs.Entries.{tested, again}
-use Rattle.heap.proofs.Ranks.{entries_ranked}
+use Rattle.fringe.proofs.Ranks.{entries_ranked}
+use Rattle.heap.proofs.Entries.{again}
 use Rattle.heap.proofs.Sinks.{first_at, sunk, sunk_last, sinks}
 use Rattle.heap.proofs.Rows.sift_down.Goals as goal
 
 pub returns-then-not-is_before : goal.returns-then-not-is_before
 returns-then-not-is_before g c =
-    let o = g.C.Order in
     let inv = c.loop-child.invariant in
-    let f = c.in-Some.ensures in
-    let l = f.later in
-    let w = f.within in
-    let fine = not-false _ (sym c.if-not-is_before.ensures) in
     record {
       reordered = inv.1;
-      ordered = λ down d. sunk (entries_ranked o.thing g.met.C.Order.ordered) (inv.2 down d) (first_at f d)
-          (tested inv.1.indexed (entry_leq o.thing o.leq) c.loop-child.parent c.in-Some.child c.index-self-parent.result c.index-self-child.result d (omega arith) w fine);
+      ordered = λ down d. sunk (entries_ranked g.C.Order.thing g.met.C.Order.ordered) (inv.2 down d) (first_at c.in-Some.ensures d)
+          (not-false _ (sym (c.if-not-is_before.ensures d)));
     }
 
 pub loop-child-preserved : goal.loop-child-preserved
 loop-child-preserved g c =
-    let o = g.C.Order in
     let inv = c.loop-child.invariant in
     let f = c.in-Some.ensures in
     let l = f.later in
     let w = f.within in
     let s = c.swap.ensures in
-    let n = s.reordered.same_len in
-    let low = not-true _ (sym c.if-not-is_before.ensures) in (
+    let n = s.reordered.same_len in (
       omega arith,
       again inv.1 s.reordered,
       λ down d. rw n
-          (sinks (entries_ranked o.thing g.met.C.Order.ordered) (inv.2 down d) (first_at f d) (s.swapped d)
-          (tested inv.1.indexed (entry_leq o.thing o.leq) c.loop-child.parent c.in-Some.child c.index-self-parent.result c.index-self-child.result d (omega arith) w low)),
+          (sinks (entries_ranked g.C.Order.thing g.met.C.Order.ordered) (inv.2 down d) (first_at f d) (s.swapped d)
+          (not-true _ (sym (c.if-not-is_before.ensures d)))),
     )
 
 pub returns : goal.returns
 returns g c =
-    let o = g.C.Order in
     let inv = c.loop-child.invariant in
     record {
       reordered = inv.1;
-      ordered = λ down d. sunk_last (entries_ranked o.thing g.met.C.Order.ordered) (inv.2 down d) c.in_default.ensures;
+      ordered = λ down d. sunk_last (entries_ranked g.C.Order.thing g.met.C.Order.ordered) (inv.2 down d) c.in_default.ensures;
     }
