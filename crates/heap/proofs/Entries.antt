@@ -88,5 +88,4 @@ again a b = record {
   same_len = b.same_len ∙ a.same_len;
   same_capacity = b.same_capacity ∙ a.same_capacity;
   same_held = λ p. b.same_held p ∙ a.same_held p;
-  indexed = b.indexed;
 }

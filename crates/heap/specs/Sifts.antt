@@ -4,7 +4,6 @@ use Rattle.fringe.specs.declared.place.Place.{Place}
 use Rattle.fringe.specs.Entries.{ahead}
 use Rattle.heap.specs.declared.Rows.{Rows}
 use Rattle.heap.specs.Heaps.{cost_at, counted, entry_at, parent}
-use Rattle.heap.specs.Indexes.{Indexed}
 
 -- What stands at i and j is exchanged, and nothing else.
 abbrev pub Exchange : {E : Type 0} → (ℕ → E) → (ℕ → E) → ℕ → ℕ → Type 0
@@ -20,7 +19,6 @@ module _ {C : Type 0} where
     pub same_len : after.len ≡ before.len
     pub same_capacity : length after.positions.now ≡ length before.positions.now
     pub same_held : (p : ℕ) → cost_at (counted after) p ≡ cost_at (counted before) p
-    pub indexed : Indexed after
 
 module _ {E : Type 0} (leq : E → E → Bool) (n : ℕ) (at : ℕ → E) (i : ℕ) where
   -- In order, but the entry at i may come before its parent; its children do not come before that parent.

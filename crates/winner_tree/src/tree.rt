@@ -1,7 +1,7 @@
 //! The winner tree.
 ghost use Rattle.std.specs.Prelude.{◌≡◌, ◌*◌, ◌/◌, ◌<◌, ◌≤◌, length, None, slice_set};
 ghost use Rattle.std.proofs.lemmas.List.{get_or_past};
-ghost use Rattle.fringe.specs.Fringes.{Empty};
+ghost use Rattle.fringe.specs.Fringes.{Empty, Emptied};
 ghost use Rattle.winner_tree.specs.Tournaments.{capacity_of, meaning_of, out_of, winner_of, match_at, InOrder, InOrderBut};
 
 pub use fringe::MOST_PLACES;
@@ -34,8 +34,17 @@ impl<'a, C: Order + Copy> WinnerTree<'a, C> {
             costs: &mut costs[0..capacity],
             winners: &mut winners[0..capacity],
         };
-        tree.clear();
+        tree.wipe();
         tree
+    }
+
+    /// Empties every place, and with it every match.
+    fn wipe(&mut self)
+        ensures emptied { Emptied (meaning_of self.old.costs.now) (meaning_of self.new.costs.now) }
+        ensures order { InOrder C.Order.thing C.Order.leq self.new.costs.now self.new.winners.now }
+    {
+        self.costs.fill(None);
+        self.winners.fill(None);
     }
 
     /// Who comes out of a node. The leaves follow the inner nodes, in the order of their places.
@@ -96,8 +105,7 @@ impl<'a, C: Order + Copy> Fringe<C> for WinnerTree<'a, C> {
     }
 
     fn clear(&mut self) {
-        self.costs.fill(None);
-        self.winners.fill(None);
+        self.wipe();
     }
 
     fn put(&mut self, place: Place, cost: C) -> Result<(), Refusal> {

@@ -1,6 +1,6 @@
 use Rattle.std.proofs.Common.{length, ap, ◌∙◌, arith, length-set}
 use Rattle.heap.proofs.Entries.{long, some_entry}
-use Rattle.heap.proofs.Swaps.{Exchanged, reordered}
+use Rattle.heap.proofs.Swaps.{Exchanged, reordered, still_indexed}
 use Rattle.heap.proofs.Rows.swap.Goals as goal
 
 pub note-requires : goal.note-requires
@@ -47,4 +47,5 @@ returns g c =
       same_length = ap length e ∙ s.len;
       noted = λ d. rw (e, u.noted d, t.noted d, t.same_entries);
     } in
-    record { swapped = x.swapped; reordered = reordered x (some_entry w.indexed w.counts.0) }
+    let d = some_entry w.indexed w.counts.0 in
+    record { swapped = x.swapped; reordered = reordered x d; indexed = still_indexed x d }

@@ -3,7 +3,7 @@ use borrow.Author.Tests.{not-true, not-false}
 use Rattle.fringe.proofs.Ranks.{entries_ranked}
 use Rattle.heap.proofs.Entries.{again}
 use Rattle.heap.proofs.Rises.{risen, risen_first, rises}
-use Rattle.heap.proofs.Rows.sift_up.Goals as goal
+use Rattle.heap.proofs.Heap.sift_up.Goals as goal
 
 pub returns-then-not-is_before : goal.returns-then-not-is_before
 returns-then-not-is_before g c =
