@@ -22,6 +22,7 @@ mod tests;
 #[derive(Drop)]
 pub struct Heap<'a, C> {
     rows: Rows<'a, C>,
+    // Both rows are of one length, the capacity, and each entry that counts stands at the position of its place.
     ghost indexed: { Indexed rows },
 }
 
@@ -50,11 +51,7 @@ impl<'a, C: Order + Copy> Heap<'a, C> {
     {
         let entries = &*self.rows.entries;
         let position = usize::from(self.rows.positions[usize::from(place.0)]);
-        if position < self.rows.len && entries[position].0 == place {
-            Some(position)
-        } else {
-            None
-        }
+        (position < self.rows.len && entries[position].0 == place).then_some(position)
     }
 
     /// Enters a place that is not held, behind the others, and sifts it up.

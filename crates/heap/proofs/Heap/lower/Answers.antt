@@ -20,11 +20,8 @@ returns-then-less g c =
       ordered = written_ordered o.thing total u.reordered r u.ordered (λ d h. less_leq o.thing o.leq rows e c.args.position ix held c.index-self-position.result total less d);
     }
 
-pub returns-else-less : goal.returns-else-less
-returns-else-less g c =
-    let o = g.C.Order in
+pub returns-else-less-clause-put : goal.returns-else-less-clause-put
+returns-else-less-clause-put g c =
     let e : Place × g.row.C.Denot = (c.args.place, c.args.cost) in
-    record {
-      put = kept_put o.thing o.leq c.args.self.now.rows e c.args.position c.args.self.now.indexed c.requires c.index-self-position.result (not-false _ (sym c.if-less.ensures));
-      ordered = λ ordered. ordered;
-    }
+    let heap = c.args.self.now in
+    kept_put g.C.Order.thing g.C.Order.leq heap.rows e c.args.position heap.indexed c.requires c.index-self-position.result (not-false _ (sym c.if-less.ensures))

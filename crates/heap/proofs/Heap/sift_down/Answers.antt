@@ -5,14 +5,10 @@ use Rattle.heap.proofs.Entries.{again}
 use Rattle.heap.proofs.Sinks.{first_at, sunk, sunk_last, sinks}
 use Rattle.heap.proofs.Heap.sift_down.Goals as goal
 
-pub returns-then-not-is_before : goal.returns-then-not-is_before
-returns-then-not-is_before g c =
-    let inv = c.loop-child.invariant in
-    record {
-      reordered = inv.1;
-      ordered = λ down d. sunk (entries_ranked g.C.Order.thing g.met.C.Order.ordered) (inv.2 down d) (first_at c.in-Some.ensures d)
-          (not-false _ (sym (c.if-not-is_before.ensures d)));
-    }
+pub returns-then-not-is_before-clause-ordered : goal.returns-then-not-is_before-clause-ordered
+returns-then-not-is_before-clause-ordered g c down d =
+    sunk (entries_ranked g.C.Order.thing g.met.C.Order.ordered) (c.loop-child.invariant.2 down d) (first_at c.in-Some.ensures d)
+    (not-false _ (sym (c.if-not-is_before.ensures d)))
 
 pub loop-child-preserved : goal.loop-child-preserved
 loop-child-preserved g c =
@@ -29,10 +25,6 @@ loop-child-preserved g c =
           (not-true _ (sym (c.if-not-is_before.ensures d)))),
     )
 
-pub returns : goal.returns
-returns g c =
-    let inv = c.loop-child.invariant in
-    record {
-      reordered = inv.1;
-      ordered = λ down d. sunk_last (entries_ranked g.C.Order.thing g.met.C.Order.ordered) (inv.2 down d) c.in_default.ensures;
-    }
+pub returns-clause-ordered : goal.returns-clause-ordered
+returns-clause-ordered g c down d =
+    sunk_last (entries_ranked g.C.Order.thing g.met.C.Order.ordered) (c.loop-child.invariant.2 down d) c.in_default.ensures

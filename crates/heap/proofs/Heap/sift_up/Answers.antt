@@ -5,13 +5,9 @@ use Rattle.heap.proofs.Entries.{again}
 use Rattle.heap.proofs.Rises.{risen, risen_first, rises}
 use Rattle.heap.proofs.Heap.sift_up.Goals as goal
 
-pub returns-then-not-is_before : goal.returns-then-not-is_before
-returns-then-not-is_before g c =
-    let inv = c.loop-child.invariant in
-    record {
-      reordered = inv.1;
-      ordered = λ up d. risen (entries_ranked g.C.Order.thing g.met.C.Order.ordered) (inv.2 up d) (not-false _ (sym (c.if-not-is_before.ensures d)));
-    }
+pub returns-then-not-is_before-clause-ordered : goal.returns-then-not-is_before-clause-ordered
+returns-then-not-is_before-clause-ordered g c up d =
+    risen (entries_ranked g.C.Order.thing g.met.C.Order.ordered) (c.loop-child.invariant.2 up d) (not-false _ (sym (c.if-not-is_before.ensures d)))
 
 pub loop-child-preserved : goal.loop-child-preserved
 loop-child-preserved g c =
@@ -25,10 +21,6 @@ loop-child-preserved g c =
           (not-true _ (sym (c.if-not-is_before.ensures d)))),
     )
 
-pub returns : goal.returns
-returns g c =
-    let inv = c.loop-child.invariant in
-    record {
-      reordered = inv.1;
-      ordered = λ up d. risen_first (entries_ranked g.C.Order.thing g.met.C.Order.ordered) (inv.2 up d) (omega arith);
-    }
+pub returns-clause-ordered : goal.returns-clause-ordered
+returns-clause-ordered g c up d =
+    risen_first (entries_ranked g.C.Order.thing g.met.C.Order.ordered) (c.loop-child.invariant.2 up d) (omega arith)
