@@ -37,8 +37,8 @@ impl<'a, C: Order + Copy> Heap<'a, C> {
         let capacity = entries.len().min(positions.len()).min(MOST_PLACES);
         Heap {
             rows: Rows {
-                entries: &mut entries[0..capacity],
-                positions: &mut positions[0..capacity],
+                entries: &mut entries[..capacity],
+                positions: &mut positions[..capacity],
                 len: 0,
             },
         }
@@ -164,6 +164,7 @@ impl<'a, C: Order + Copy> Heap<'a, C> {
 impl<'a, C: Order + Copy> Fringe<C> for Heap<'a, C> {
     ghost meaning = { λ s. meaning_of s.rows };
 
+    // No invariant of the type, as the index is: an entry being sifted stands out of order over several calls.
     ghost well = { λ s. InOrder C.Order.thing C.Order.leq s.rows };
 
     ghost bounded = { λ s _. bounded_of s.rows s.indexed.inside };
@@ -204,7 +205,7 @@ impl<'a, C: Order + Copy> Fringe<C> for Heap<'a, C> {
     }
 }
 
-/// The memory of a heap, and how many of its entries count.
+/// The memory of a heap, and how many of its entries count. The memory is lent, so it cannot grow and shrink itself.
 #[derive(Drop)]
 struct Rows<'a, C> {
     entries: &'a mut [(Place, C)],

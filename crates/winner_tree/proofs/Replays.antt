@@ -65,15 +65,12 @@ module _ {C T : Type 0} (thing : C → T) (leq : T → T → Bool) (costs : List
       (played_again thing leq (length costs) k (out_of costs winners) (out_of costs (set winners k w)) (winner_written costs winners k w) pos
       (out_match costs (set winners k w) k below ∙ get_or-set_same winners k w None (omega arith)) order)
 
-  set_written : (p : ℕ) (c : Option C) → InOrder thing leq costs winners → InOrderBut thing leq ((length (set costs p c) + p) / 2) (set costs p c) winners
-  set_written p c order i pos below above =
+  -- The rows once a place was written.
+  pub rows_written : (p : ℕ) (c : Option C) → InOrder thing leq costs winners → InOrderBut thing leq ((length (set costs p c) + p) / 2) (set costs p c) winners
+  rows_written p c order i pos below above =
       let same = length-set costs p c in
       leaf_changed thing leq (length costs) (length costs + p) (out_of costs winners) (out_of (set costs p c) winners) (cost_written costs winners p c) (omega arith) order i pos
       (omega arith) (λ e. above (omega arith))
-
-  -- The rows once a place was written.
-  pub rows_written : (costs' : List (Option C)) (p : ℕ) (c : Option C) → costs' ≡ set costs p c → InOrder thing leq costs winners → InOrderBut thing leq ((length costs' + p) / 2) costs' winners
-  rows_written costs' p c is order = subst (λ l. InOrderBut thing leq ((length l + p) / 2) l winners) (sym is) (set_written p c order)
 
   -- Empty rows are in order.
   pub rows_empty : ((q : ℕ) → get_or costs q None ≡ None) → ((q : ℕ) → get_or winners q None ≡ None) → InOrder thing leq costs winners

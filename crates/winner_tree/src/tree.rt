@@ -14,6 +14,7 @@ use fringe::{Fringe, Order, Place, Refusal, precedes};
 /// matches on the way up from it are played again: one for each level of the tree.
 #[derive(Drop)]
 pub struct WinnerTree<'a, C> {
+    // Two rows, for one is counted by places and the other by inner nodes.
     /// The cost that each place holds.
     costs: &'a mut [Option<C>],
     /// The winner of the match at each inner node, with its cost. Inner nodes are counted from 1: cell 0 stays empty.
@@ -31,8 +32,8 @@ impl<'a, C: Order + Copy> WinnerTree<'a, C> {
     {
         let capacity = costs.len().min(winners.len()).min(MOST_PLACES);
         let mut tree = WinnerTree {
-            costs: &mut costs[0..capacity],
-            winners: &mut winners[0..capacity],
+            costs: &mut costs[..capacity],
+            winners: &mut winners[..capacity],
         };
         tree.wipe();
         tree
