@@ -1,5 +1,5 @@
 -- What indexed rows hold, by the positions of their entries.
-use Rattle.std.proofs.Common.{◌≡◌, ℕ, zero, suc, ◌<◌, ◌≤◌, Bool, ◌⊎◌, List, [], ◌∷◌, length, get_or, Some, None, sym, refl, ap, ◌∙◌, inl, inr, ⊎_elim, arith, length-take, get_or-take, eq-eqb, ne_eqb}
+use Rattle.std.proofs.Common.{◌≡◌, ℕ, zero, suc, ◌<◌, ◌≤◌, ◌⊎◌, List, [], ◌∷◌, length, get_or, Some, None, sym, refl, ap, ◌∙◌, inl, inr, ⊎_elim, arith, length-take, get_or-take, eq-eqb, ne_eqb}
 use Rattle.std.proofs.lemmas.List.{get_or_default}
 use Rattle.std.proofs.lemmas.Bool.{cases_eq, cases_lt}
 use Rattle.fringe.specs.declared.place.Place.{Place}
@@ -32,14 +32,6 @@ module _ {C : Type 0} {rows : Rows C} (ix : Indexed rows) where
   -- Below `len` one default serves as well as another.
   pub default : (k : ℕ) (d e : Place × C) → k < rows.len → entry_at rows d k ≡ entry_at rows e k
   default k d e h = let l = long in get_or_default rows.entries.now k d e (omega arith)
-
-  -- A test of two entries, at any default.
-  pub tested : (leq : Place × C → Place × C → Bool) (i j : ℕ) (x y d : Place × C) {t : Bool} → i < rows.len → j < rows.len → leq (entry_at rows x i) (entry_at rows y j) ≡ t → leq (entry_at rows d i) (entry_at rows d j) ≡ t
-  tested leq i j x y d il jl e = rw (default i d x il, default j d y jl) e
-
-  -- The same of two entries that were read.
-  pub tested_read : (leq : Place × C → Place × C → Bool) (i j : ℕ) (x y d : Place × C) {t : Bool} → i < rows.len → j < rows.len → x ≡ entry_at rows x i → y ≡ entry_at rows y j → leq x y ≡ t → leq (entry_at rows d i) (entry_at rows d j) ≡ t
-  tested_read leq i j x y d il jl ex ey e = tested leq i j x y d il jl (rw (← ex, ← ey) e)
 
   -- Each place stands once.
   pub once : (j k : ℕ) (d : Place × C) → j < rows.len → k < rows.len → place_of (entry_at rows d j) ≡ place_of (entry_at rows d k) → j ≡ k
@@ -96,5 +88,4 @@ again a b = record {
   same_len = b.same_len ∙ a.same_len;
   same_capacity = b.same_capacity ∙ a.same_capacity;
   same_held = λ p. b.same_held p ∙ a.same_held p;
-  indexed = b.indexed;
 }

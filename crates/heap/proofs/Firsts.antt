@@ -9,7 +9,7 @@ use Rattle.heap.specs.Heaps.{Ordered, InOrder, parent, place_of, cost_at, counte
 use Rattle.heap.specs.Indexes.{Indexed}
 use Rattle.heap.specs.Sifts.{Swapped, Reordered, DownFrom}
 use Rattle.heap.proofs.Entries.{once, decided, held_some, held_none, held_where}
-use Rattle.heap.proofs.Ranks.{Ranked, entries_ranked, costs_leq, costs_less}
+use Rattle.fringe.proofs.Ranks.{Ranked, entries_ranked, costs_leq, costs_less}
 
 -- In heap order no entry comes before the first.
 module _ {E : Type 0} {leq : E → E → Bool} (o : Ranked leq) {n : ℕ} (at : ℕ → E) (ordered : Ordered leq n at) where

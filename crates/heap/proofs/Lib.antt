@@ -1,6 +1,5 @@
 pub mod Entries
 pub mod Swaps
-pub mod Ranks
 pub mod Rises
 pub mod Sinks
 pub mod Pigeons

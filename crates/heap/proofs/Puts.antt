@@ -6,13 +6,14 @@ use Rattle.std.specs.Option.{option_map}
 use Rattle.fringe.specs.declared.place.Place.{Place}
 use Rattle.fringe.specs.Fringes.{Put, lowered}
 use Rattle.fringe.specs.Orders.{TotalOrder}
+use Rattle.fringe.specs.Entries.{ahead}
 use Rattle.heap.specs.declared.Rows.{Rows}
-use Rattle.heap.specs.Heaps.{Ordered, InOrder, parent, place_of, cost_at, counted, entry_at, entry_leq, meaning_of}
+use Rattle.heap.specs.Heaps.{Ordered, InOrder, parent, place_of, cost_at, counted, entry_at, meaning_of}
 use Rattle.heap.specs.Indexes.{Indexed, Found}
 use Rattle.heap.specs.Sifts.{Reordered, Rising, UpTo}
 use Rattle.heap.proofs.Entries.{default, once, decided, held_some, held_none}
 use Rattle.heap.proofs.Pigeons.{pigeons}
-use Rattle.heap.proofs.Ranks.{Ranked, entries_ranked}
+use Rattle.fringe.proofs.Ranks.{Ranked, entries_ranked}
 
 -- The entry e is written at k and noted. No other entry that counts is of its place.
 pub record Written {C : Type 0} (before after : Rows C) (k : ℕ) (e : Place × C) : Type 0 where
@@ -170,7 +171,7 @@ module _ {C T : Type 0} (thing : C → T) {leq : T → T → Bool} (o : TotalOrd
     elsewhere = λ q x. ap (option_map thing) (r.same_held q ∙ held_elsewhere w q x);
   }
 
-  pub written_ordered : (UpTo thing leq middle k → InOrder thing leq after) → ((d : Place × C) → k < before.len → entry_leq thing leq e (entry_at before d k) ≡ true) → InOrder thing leq before → InOrder thing leq after
+  pub written_ordered : (UpTo thing leq middle k → InOrder thing leq after) → ((d : Place × C) → k < before.len → ahead thing leq e (entry_at before d k) ≡ true) → InOrder thing leq before → InOrder thing leq after
   written_ordered sifted less ordered = sifted (λ d. up_to w (entries_ranked thing o) d (ordered d) (less d))
 
 -- The cost of an entry that was found, beside a new cost for its place. x is the default that it was read at.
@@ -181,7 +182,7 @@ module _ {C T : Type 0} (thing : C → T) (leq : T → T → Bool) (rows : Rows 
   pub less_low : leq (thing (entry_at rows x k).1) (thing e.1) ≡ false → lowered thing leq (cost_at (counted rows) (place_of e)) e.1 ≡ Some e.1
   less_low less = ap (λ h. lowered thing leq h e.1) was_held ∙ rw less
 
-  pub less_leq : TotalOrder leq → leq (thing (entry_at rows x k).1) (thing e.1) ≡ false → (d : Place × C) → entry_leq thing leq e (entry_at rows d k) ≡ true
+  pub less_leq : TotalOrder leq → leq (thing (entry_at rows x k).1) (thing e.1) ≡ false → (d : Place × C) → ahead thing leq e (entry_at rows d k) ≡ true
   less_leq o less d =
       rw (default ix k d x found.0)
       (let t = o.total_leq _ _ less in rw (t, less))

@@ -3,7 +3,7 @@ use Rattle.std.proofs.Common.{◌≡◌, ℕ, ◌<◌, Bool, true, false, subst,
 use Rattle.std.proofs.lemmas.Bool.{cases_eq}
 use Rattle.heap.specs.Heaps.{Ordered, parent}
 use Rattle.heap.specs.Sifts.{Exchange, Rising}
-use Rattle.heap.proofs.Ranks.{Ranked}
+use Rattle.fringe.proofs.Ranks.{Ranked}
 
 module _ {E : Type 0} {leq : E → E → Bool} (o : Ranked leq) {n : ℕ} {at : ℕ → E} {i : ℕ} (up : Rising leq n at i) where
   -- It does not come before its parent: all is in order.

@@ -1,24 +1,12 @@
 -- An entry sinks: it is exchanged with its first child while that comes before it.
 use Rattle.std.proofs.Common.{◌≡◌, ℕ, ◌+◌, ◌*◌, ◌<◌, ◌≤◌, Bool, true, false, subst, ⊎_elim, arith}
 use Rattle.std.proofs.lemmas.Bool.{cases_eq}
-use Rattle.fringe.specs.Orders.{TotalOrder}
 use Rattle.fringe.specs.declared.place.Place.{Place}
+use Rattle.fringe.specs.Entries.{ahead}
 use Rattle.heap.specs.declared.Rows.{Rows}
-use Rattle.heap.specs.Heaps.{Ordered, parent, entry_leq, entry_at}
+use Rattle.heap.specs.Heaps.{Ordered, parent, entry_at}
 use Rattle.heap.specs.Sifts.{Exchange, Sinking, FirstOfChildren}
-use Rattle.heap.proofs.Ranks.{Ranked, entries_ranked}
-
--- An entry has no children but c and m, and m does not come before c.
-pub first_of_two : {C T : Type 0} (thing : C → T) {leq : T → T → Bool} → TotalOrder leq → (rows : Rows C) (i c m : ℕ) → parent c ≡ i → i < c → c < rows.len → ((k : ℕ) → 0 < k → parent k ≡ i → (k ≡ c → ⊥) → k ≡ m) → ((d : Place × C) → m < rows.len → entry_leq thing leq (entry_at rows d c) (entry_at rows d m) ≡ true) → FirstOfChildren thing leq rows i c
-first_of_two thing o rows i c m child later within other fine = record {
-  child = child;
-  later = later;
-  within = within;
-  first = λ k d z l e. ⊎_elim
-      (λ (s : k ≡ c). rw s ((entries_ranked thing o).same (entry_at rows d c)))
-      (λ x. let s = other k z e x in rw s (fine d (omega arith)))
-      (cases_eq k c);
-}
+use Rattle.fringe.proofs.Ranks.{Ranked}
 
 -- The entry at c is a child of the one at i, and no child comes before it.
 pub record FirstAt {E : Type 0} (leq : E → E → Bool) (n : ℕ) (at : ℕ → E) (i c : ℕ) : Type 0 where
@@ -27,7 +15,7 @@ pub record FirstAt {E : Type 0} (leq : E → E → Bool) (n : ℕ) (at : ℕ →
   pub within : c < n
   pub first : (k : ℕ) → 0 < k → k < n → parent k ≡ i → leq (at c) (at k) ≡ true
 
-pub first_at : {C T : Type 0} {thing : C → T} {leq : T → T → Bool} {rows : Rows C} {i c : ℕ} → FirstOfChildren thing leq rows i c → (d : Place × C) → FirstAt (entry_leq thing leq) rows.len (entry_at rows d) i c
+pub first_at : {C T : Type 0} {thing : C → T} {leq : T → T → Bool} {rows : Rows C} {i c : ℕ} → FirstOfChildren thing leq rows i c → (d : Place × C) → FirstAt (ahead thing leq) rows.len (entry_at rows d) i c
 first_at f d = record { child = f.child; later = f.later; within = f.within; first = λ k. f.first k d }
 
 module _ {E : Type 0} {leq : E → E → Bool} (o : Ranked leq) {n : ℕ} {at : ℕ → E} {i : ℕ} (down : Sinking leq n at i) where

@@ -78,8 +78,8 @@ module _ {C : Type 0} {before after : Rows C} {i j : ℕ} (x : Exchanged before 
       (cases_eq k i))
       (cases_eq k j))
 
-  pub reordered : Place × C → Reordered before after
-  reordered d =
+  pub still_indexed : Place × C → Indexed after
+  still_indexed d =
       let w = x.indexed in
       let n = x.same_len in
       let m = x.same_length in
@@ -87,16 +87,17 @@ module _ {C : Type 0} {before after : Rows C} {i j : ℕ} (x : Exchanged before 
       let lv = w.level in
       let fw = w.few in
       let ft = w.fits in
-      let after_indexed : Indexed after = record {
+      record {
         level = omega arith;
         few = omega arith;
         fits = omega arith;
         inside = λ k e h. rw c (below e k h);
         there = λ k e h. there_after e k (omega arith);
-      } in
-      record {
-        same_len = n;
-        same_capacity = c;
-        same_held = same_held w after_indexed d (moved d) (came d);
-        indexed = after_indexed;
       }
+
+  pub reordered : Place × C → Reordered before after
+  reordered d = record {
+    same_len = x.same_len;
+    same_capacity = same_capacity d;
+    same_held = same_held x.indexed (still_indexed d) d (moved d) (came d);
+  }

@@ -1,6 +1,7 @@
 -- What a heap means, and when it is in order.
-use Rattle.std.specs.Prelude.{◌≡◌, ℕ, ◌-◌, ◌/◌, ◌<◌, Bool, true, false, cond, List, [], ◌∷◌, length, take, Some, None, Option, ◌==◌, nat_le, slice_index_or}
+use Rattle.std.specs.Prelude.{◌≡◌, ℕ, ◌-◌, ◌/◌, ◌<◌, Bool, true, cond, List, [], ◌∷◌, length, take, Some, None, Option, ◌==◌, slice_index_or}
 use Rattle.fringe.specs.declared.place.Place.{Place}
+use Rattle.fringe.specs.Entries.{ahead}
 use Rattle.fringe.specs.Fringes.{Meaning}
 use Rattle.heap.specs.declared.Rows.{Rows}
 
@@ -34,11 +35,6 @@ abbrev pub Ordered : {E : Type 0} → (E → E → Bool) → ℕ → (ℕ → E)
 Ordered leq n at = (k : ℕ) → 0 < k → k < n → leq (at (parent k)) (at k) ≡ true
 
 module _ {C T : Type 0} (thing : C → T) (leq : T → T → Bool) where
-  -- The entry a does not come after b: by the cost, and of equal costs by the place.
-  abbrev pub entry_leq : Place × C → Place × C → Bool
-  entry_leq a b =
-      cond (leq (thing a.1) (thing b.1)) (cond (leq (thing b.1) (thing a.1)) (nat_le (place_of a) (place_of b)) true) false
-
   -- The entries that count are in heap order.
   abbrev pub InOrder : Rows C → Type 0
-  InOrder rows = (d : Place × C) → Ordered entry_leq rows.len (entry_at rows d)
+  InOrder rows = (d : Place × C) → Ordered (ahead thing leq) rows.len (entry_at rows d)

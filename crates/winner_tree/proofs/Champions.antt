@@ -1,47 +1,28 @@
 -- The winner of a tournament in order is the first of all places that are held.
 use Rattle.std.proofs.Common.{◌≡◌, ℕ, zero, suc, ◌+◌, ◌-◌, ◌*◌, ◌/◌, ◌<◌, ◌≤◌, Bool, true, false, ◌⊎◌, List, length, get_or, Some, None, Option, sym, refl, ap, ◌∙◌, subst, inl, inr, ⊎_elim, arith}
 use Rattle.std.proofs.lemmas.List.{get_or_past}
-use Rattle.std.proofs.lemmas.Bool.{cases_eq, cases_lt, cond_both, cond-true, cond-false, eq-eqb, ne_eqb}
-use Rattle.std.proofs.lemmas.Bool.Decides.{nat_tests}
+use Rattle.std.proofs.lemmas.Bool.{cases_eq, cases_lt, cond_both}
 use Rattle.std.specs.Option.{option_map}
 use Rattle.fringe.specs.Orders.{TotalOrder}
+use Rattle.fringe.specs.Entries.{ahead}
 use Rattle.fringe.specs.Fringes.{Least}
+use Rattle.fringe.proofs.Ranks.{Ranked, entries_ranked, costs_leq, costs_less}
 use Rattle.fringe.specs.declared.place.Place.{Place}
-use Rattle.winner_tree.specs.Tournaments.{meaning_of, entrant, out_of, champion_of, ahead, winner_of, Decided, InOrder}
+use Rattle.winner_tree.specs.Tournaments.{meaning_of, entrant, out_of, winner_of, Decided, InOrder}
 use Rattle.winner_tree.proofs.Replays.{out_leaf, out_high}
-
-pub never : {A : Type 0} {x : Option A} {a : A} → x ≡ None → x ≡ Some a → ⊥
-never n s = let z : ◌≡◌ {A = ℕ} 0 1 = cc in omega arith
 
 -- Who comes out of a leaf is its place, with what that holds.
 entrant_held : {C : Type 0} (p : ℕ) (h : Option C) (e : Place × C) → entrant p h ≡ Some e → (e.0.0 ≡ p) × (h ≡ Some e.1)
-entrant_held p None e same = absurd (never refl same)
+entrant_held p None e same = absurd (cc)
 entrant_held p (Some c) e same = let s : (record { 0 = p }, c) ≡ e = cc in (sym (ap (λ x. x.0.0) s), ap (λ x. Some x.1) s)
 
 entrant_none : {C : Type 0} (p : ℕ) (h : Option C) → entrant p h ≡ None → h ≡ None
 entrant_none p None same = refl
-entrant_none p (Some c) same = absurd (never same refl)
+entrant_none p (Some c) same = absurd (cc)
 
 module _ {C T : Type 0} (thing : C → T) {leq : T → T → Bool} (o : TotalOrder leq) where
-  -- `ahead` is a total order of places with their costs.
-  ahead_self : (a : Place × C) → ahead thing leq a a ≡ true
-  ahead_self a = let r = o.refl_leq (thing a.1) in grind (arith, nat_tests)
-
-  ahead_chain : (a b c : Place × C) → ahead thing leq a b ≡ true → ahead thing leq b c ≡ true → ahead thing leq a c ≡ true
-  ahead_chain a b c p q =
-      let t = o.trans_leq (thing a.1) (thing b.1) (thing c.1) in
-      let u = o.trans_leq (thing c.1) (thing a.1) (thing b.1) in
-      let v = o.trans_leq (thing b.1) (thing c.1) (thing a.1) in
-      grind (arith, nat_tests)
-
-  ahead_total : (a b : Place × C) → ahead thing leq a b ≡ false → ahead thing leq b a ≡ true
-  ahead_total a b p = let t = o.total_leq (thing a.1) (thing b.1) in grind (arith, nat_tests)
-
-  ahead_leq : (a b : Place × C) → ahead thing leq a b ≡ true → leq (thing a.1) (thing b.1) ≡ true
-  ahead_leq a b p = grind (arith, nat_tests)
-
-  ahead_less : (a b : Place × C) → ahead thing leq a b ≡ true → b.0.0 < a.0.0 → leq (thing b.1) (thing a.1) ≡ false
-  ahead_less a b p lower = grind (arith, nat_tests)
+  ranked : Ranked (ahead thing leq)
+  ranked = entries_ranked thing o
 
   -- Whether x is ahead of y, where nobody is behind everybody.
   abbrev leads : Option (Place × C) → Option (Place × C) → Bool
@@ -52,30 +33,30 @@ module _ {C T : Type 0} (thing : C → T) {leq : T → T → Bool} (o : TotalOrd
 
   leads_none : (x : Option (Place × C)) → leads None x ≡ true → x ≡ None
   leads_none None e = refl
-  leads_none (Some b) e = absurd (let z : ◌≡◌ {A = Bool} false true = e in grind (arith, nat_tests))
+  leads_none (Some b) e = absurd (cc)
 
   leads_self : (x : Option (Place × C)) → leads x x ≡ true
   leads_self None = refl
-  leads_self (Some a) = ahead_self a
+  leads_self (Some a) = ranked.same a
 
   leads_chain : (x y z : Option (Place × C)) → leads x y ≡ true → leads y z ≡ true → leads x z ≡ true
   leads_chain None None z p q = q
   leads_chain None (Some b) None p q = refl
   leads_chain None (Some b) (Some c) p q = p
   leads_chain (Some a) y None p q = refl
-  leads_chain (Some a) None (Some c) p q = absurd (let z : ◌≡◌ {A = Bool} false true = q in grind (arith, nat_tests))
-  leads_chain (Some a) (Some b) (Some c) p q = ahead_chain a b c p q
+  leads_chain (Some a) None (Some c) p q = absurd (cc)
+  leads_chain (Some a) (Some b) (Some c) p q = ranked.chain a b c p q
 
   leads_left : (x y : Option (Place × C)) → leads (winner_of thing leq x y) x ≡ true
   leads_left None None = refl
   leads_left None (Some b) = refl
-  leads_left (Some a) None = ahead_self a
-  leads_left (Some a) (Some b) = cond_both (ahead thing leq a b) (Some a) (Some b) (λ w. leads w (Some a) ≡ true) (λ e. ahead_self a) (λ e. ahead_total a b e)
+  leads_left (Some a) None = ranked.same a
+  leads_left (Some a) (Some b) = cond_both (ahead thing leq a b) (Some a) (Some b) (λ w. leads w (Some a) ≡ true) (λ e. ranked.same a) (λ e. ranked.total a b e)
 
   leads_right : (x y : Option (Place × C)) → leads (winner_of thing leq x y) y ≡ true
   leads_right None y = leads_self y
   leads_right (Some a) None = refl
-  leads_right (Some a) (Some b) = cond_both (ahead thing leq a b) (Some a) (Some b) (λ w. leads w (Some b) ≡ true) (λ e. e) (λ e. ahead_self b)
+  leads_right (Some a) (Some b) = cond_both (ahead thing leq a b) (Some a) (Some b) (λ w. leads w (Some b) ≡ true) (λ e. e) (λ e. ranked.same b)
 
   -- The winner is one of the two.
   one_of : (x y : Option (Place × C)) → (winner_of thing leq x y ≡ x) ⊎ (winner_of thing leq x y ≡ y)
@@ -122,7 +103,7 @@ module _ {C T : Type 0} (thing : C → T) {leq : T → T → Bool} (o : TotalOrd
         (root_by (length costs) (out_of costs winners) order (length costs + q) (length costs + q) (omega arith) (omega arith) (omega arith))
 
     inside : (q : ℕ) (d : C) → get_or costs q None ≡ Some d → q < length costs
-    inside q d e = ⊎_elim (λ l. l) (λ l. absurd (never (get_or_past costs q None l) e)) (cases_lt q (length costs))
+    inside q d e = ⊎_elim (λ l. l) (λ l. absurd (let g = get_or_past costs q None l in cc)) (cases_lt q (length costs))
 
     none_held : None ≡ out_of costs winners 1 → (q : ℕ) → get_or costs q None ≡ None
     none_held nobody q =
@@ -136,18 +117,11 @@ module _ {C T : Type 0} (thing : C → T) {leq : T → T → Bool} (o : TotalOrd
         let l = root_leads q (inside q d held) in
         subst (λ h. leads (Some r) (entrant q h) ≡ true) held (subst (λ w. leads w (entrant q (get_or costs q None)) ≡ true) (sym won) l)
 
-    root_first : (w : Option (Place × C)) → 0 < length costs → w ≡ out_of costs winners 1 → Least thing leq (meaning_of costs) w
+    -- The winner is what a fringe with this row of costs has for its least.
+    pub root_first : (w : Option (Place × C)) → 0 < length costs → w ≡ out_of costs winners 1 → Least thing leq (meaning_of costs) w
     root_first None some won = none_held won
     root_first (Some r) some won = record {
       there = ap (option_map thing) (from_leaf (2 * length costs) 1 r (omega arith) (omega arith) (omega arith) (sym won));
-      least = λ q d held. ahead_leq r (record { 0 = q }, d) (ahead_all r won q d held);
-      lowest = λ q d held lower. ahead_less r (record { 0 = q }, d) (ahead_all r won q d held) lower;
+      least = λ q d held. costs_leq thing leq r (record { 0 = q }, d) (ahead_all r won q d held);
+      lowest = λ q d held lower. costs_less thing leq r (record { 0 = q }, d) (ahead_all r won q d held) lower;
     }
-
-    -- The winner is what a fringe with this row of costs has for its least.
-    pub champion_least : (w : Option (Place × C)) → w ≡ champion_of costs winners → Least thing leq (meaning_of costs) w
-    champion_least w won =
-        ⊎_elim
-        (λ (none : length costs ≡ 0). subst (λ x. Least thing leq (meaning_of costs) x) (sym (won ∙ cond-true _ _ _ (eq-eqb _ 0 none))) (λ q. get_or_past costs q None (omega arith)))
-        (λ some. root_first w (omega (arith, some)) (won ∙ cond-false _ _ _ (ne_eqb _ 0 some)))
-        (cases_eq (length costs) 0)

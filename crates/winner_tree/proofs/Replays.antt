@@ -1,6 +1,8 @@
 -- What a change at one node leaves of the matches.
 use Rattle.std.proofs.Common.{◌≡◌, ℕ, ◌+◌, ◌-◌, ◌*◌, ◌/◌, ◌<◌, ◌≤◌, Bool, List, length, get_or, set, None, Option, sym, ap, ◌∙◌, subst, ⊎_elim, arith, length-set, get_or-set_other, get_or-set_same, le-ltb, lt-ltb}
 use Rattle.std.proofs.lemmas.Bool.{cases_eq, cases_lt}
+use Rattle.std.proofs.lemmas.List.{get_or_past, get_or-replicate}
+use Rattle.std.proofs.Math.ListN.{replicate, length-replicate}
 use Rattle.fringe.specs.declared.place.Place.{Place}
 use Rattle.winner_tree.specs.Tournaments.{entrant, out_of, winner_of, match_at, Played, Decided, DecidedBut, InOrder, InOrderBut}
 
@@ -26,9 +28,10 @@ module _ {C T : Type 0} (thing : C → T) (leq : T → T → Bool) (n k : ℕ) (
       (λ own. apart i own above (decided i pos below own))
       (cases_eq i k)
 
--- Above the root there is no match, so once it is reached all are played.
-pub all_decided : {C T : Type 0} (thing : C → T) (leq : T → T → Bool) (n k : ℕ) (out : ℕ → Option (Place × C)) → k ≤ 1 → DecidedBut thing leq (k / 2) n out → Decided thing leq n out
-all_decided thing leq n k out last decided i pos below = decided i pos below (λ e. omega arith)
+-- Cells that were all emptied are empty, and so is what lies beyond them.
+pub free_cells : {A : Type 0} (n : ℕ) {cells : List (Option A)} → cells ≡ replicate n None → (q : ℕ) → get_or cells q None ≡ None
+free_cells {A} n is q =
+    rw is (⊎_elim (get_or-replicate n q None None) (λ h. get_or_past (replicate n None) q None (omega (arith, length-replicate {A = Option A} n None))) (cases_lt q n))
 
 module _ {C : Type 0} (costs : List (Option C)) (winners : List (Option (Place × C))) where
   pub out_match : (k : ℕ) → k < length costs → out_of costs winners k ≡ get_or winners k None
@@ -62,15 +65,12 @@ module _ {C T : Type 0} (thing : C → T) (leq : T → T → Bool) (costs : List
       (played_again thing leq (length costs) k (out_of costs winners) (out_of costs (set winners k w)) (winner_written costs winners k w) pos
       (out_match costs (set winners k w) k below ∙ get_or-set_same winners k w None (omega arith)) order)
 
-  set_written : (p : ℕ) (c : Option C) → InOrder thing leq costs winners → InOrderBut thing leq ((length (set costs p c) + p) / 2) (set costs p c) winners
-  set_written p c order i pos below above =
+  -- The rows once a place was written.
+  pub rows_written : (p : ℕ) (c : Option C) → InOrder thing leq costs winners → InOrderBut thing leq ((length (set costs p c) + p) / 2) (set costs p c) winners
+  rows_written p c order i pos below above =
       let same = length-set costs p c in
       leaf_changed thing leq (length costs) (length costs + p) (out_of costs winners) (out_of (set costs p c) winners) (cost_written costs winners p c) (omega arith) order i pos
       (omega arith) (λ e. above (omega arith))
-
-  -- The rows once a place was written.
-  pub rows_written : (costs' : List (Option C)) (p : ℕ) (c : Option C) → costs' ≡ set costs p c → InOrder thing leq costs winners → InOrderBut thing leq ((length costs' + p) / 2) costs' winners
-  rows_written costs' p c is order = subst (λ l. InOrderBut thing leq ((length l + p) / 2) l winners) (sym is) (set_written p c order)
 
   -- Empty rows are in order.
   pub rows_empty : ((q : ℕ) → get_or costs q None ≡ None) → ((q : ℕ) → get_or winners q None ≡ None) → InOrder thing leq costs winners

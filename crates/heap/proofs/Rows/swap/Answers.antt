@@ -1,35 +1,7 @@
-use Rattle.std.proofs.Common.{length, ap, ◌∙◌, arith, length-set}
-use Rattle.heap.proofs.Entries.{long, some_entry}
-use Rattle.heap.proofs.Swaps.{Exchanged, reordered}
+use Rattle.std.proofs.Common.{length, ap, ◌∙◌}
+use Rattle.heap.proofs.Entries.{some_entry}
+use Rattle.heap.proofs.Swaps.{Exchanged, reordered, still_indexed}
 use Rattle.heap.proofs.Rows.swap.Goals as goal
-
-pub note-requires : goal.note-requires
-note-requires g c =
-    let w = c.requires in
-    let s = c.swap.ensures in
-    let l = long w.indexed in
-    let f = w.indexed.few in
-    let t = w.indexed.fits in
-    let il = w.counts.0 in
-    let n = s.len in
-    record { few = omega arith; within = omega arith; inside = λ d. rw (s.by_index.0 d) (w.indexed.inside c.args.j d w.counts.1) }
-
-pub note-requires-2 : goal.note-requires-2
-note-requires-2 g c =
-    let w = c.requires in
-    let s = c.swap.ensures in
-    let t = c.note.ensures in
-    let l = long w.indexed in
-    let f = w.indexed.few in
-    let u = w.indexed.fits in
-    let jl = w.counts.1 in
-    let n = s.len in
-    let e = t.same_entries in
-    record {
-      few = omega arith;
-      within = rw t.same_entries (omega arith);
-      inside = λ d. rw (t.same_entries, t.noted d, length-set, s.by_index.1 d) (w.indexed.inside c.args.i d w.counts.0);
-    }
 
 pub returns : goal.returns
 returns g c =
@@ -47,4 +19,5 @@ returns g c =
       same_length = ap length e ∙ s.len;
       noted = λ d. rw (e, u.noted d, t.noted d, t.same_entries);
     } in
-    record { swapped = x.swapped; reordered = reordered x (some_entry w.indexed w.counts.0) }
+    let d = some_entry w.indexed w.counts.0 in
+    record { swapped = x.swapped; reordered = reordered x d; indexed = still_indexed x d }
