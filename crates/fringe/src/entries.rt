@@ -15,5 +15,5 @@ pub fn precedes<C: Order>(a: &(Place, C), b: &(Place, C)) -> bool
     if b.1.less(&a.1) {
         return false;
     }
-    a.0.0 < b.0.0
+    a.0 < b.0
 }

@@ -7,6 +7,7 @@ ghost use Rattle.routes.specs.Parts.{paid};
 use crate::rows::label_at;
 use fringe::order::Order;
 use fringe::place::Place;
+use fringe::precedes;
 use map::maps::Map;
 use map::roads::{Mark, Road};
 use measure::measures::Measure;
@@ -36,18 +37,13 @@ fn better_of<C: Order + Copy>(
 ) -> Option<(Place, C)>
     ensures { result ≡ nearer C.Order.thing C.Order.leq found place cost }
 {
-    match cost {
-        Some(c) => match found {
-            Some(best) => {
-                if c.less(&best.1) || !best.1.less(&c) && place.0 < best.0.0 {
-                    Some((place, c))
-                } else {
-                    Some(best)
-                }
-            }
-            None => Some((place, c)),
-        },
-        None => found,
+    let Some(c) = cost else {
+        return found;
+    };
+    let next = (place, c);
+    match found {
+        Some(best) => Some(if precedes(&next, &best) { next } else { best }),
+        None => Some(next),
     }
 }
 

@@ -50,7 +50,7 @@ impl<'a, C: Order + Copy> Heap<'a, C> {
         ensures { Found self.now.rows place.0 result }
     {
         let entries = &*self.rows.entries;
-        let position = usize::from(self.rows.positions[usize::from(place.0)]);
+        let position = usize::from(self.rows.positions[usize::from(place)]);
         (position < self.rows.len && entries[position].0 == place).then_some(position)
     }
 
@@ -63,7 +63,7 @@ impl<'a, C: Order + Copy> Heap<'a, C> {
     {
         let last = self.rows.len;
         self.rows.entries[last] = (place, cost);
-        self.rows.positions[usize::from(place.0)] = last as u16;
+        self.rows.positions[usize::from(place)] = last as u16;
         self.rows.len = last + 1;
         self.sift_up(last);
     }
@@ -178,7 +178,7 @@ impl<'a, C: Order + Copy> Fringe<C> for Heap<'a, C> {
     }
 
     fn put(&mut self, place: Place, cost: C) -> Result<(), Refusal> {
-        if usize::from(place.0) >= self.rows.positions.len() {
+        if usize::from(place) >= self.rows.positions.len() {
             return Err(Refusal::NoRoom);
         }
         match self.find(place) {

@@ -110,7 +110,7 @@ impl<'a, C: Order + Copy> Fringe<C> for WinnerTree<'a, C> {
     }
 
     fn put(&mut self, place: Place, cost: C) -> Result<(), Refusal> {
-        let p = usize::from(place.0);
+        let p = usize::from(place);
         if p >= self.costs.len() {
             return Err(Refusal::NoRoom);
         }
