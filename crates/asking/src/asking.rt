@@ -1,15 +1,14 @@
 //! A question answered in memory that fits the map.
 ghost use Rattle.std.specs.Prelude.{◌≡◌, ℕ, ◌≤◌, false, length, replicate};
 ghost use Rattle.fringe.specs.Fringes.{Emptied};
-ghost use Rattle.measure.specs.Costs.{CostLaws};
 ghost use Rattle.routes.specs.declared.labels.Label.TheVariants.{Blank};
-ghost use Rattle.routes.specs.Asking.{given};
-ghost use Rattle.routes.specs.Search.{Both, ops_of, answer, answer_of};
+ghost use Rattle.routes.specs.Search.{Both, answer, answer_of};
 ghost use Rattle.routes.specs.Unspliced.{Unspliced};
-ghost use Rattle.table.specs.Views.{stored};
-ghost use Rattle.search.specs.Asked.{Asked};
 ghost use Rattle.search.specs.Rounds.{Left};
 ghost use Rattle.asking.specs.Answers.{Tells, Answers};
+ghost use Rattle.measure.specs.Members.{Lawful};
+ghost use Rattle.routes.specs.Members.{operations};
+ghost use Rattle.search.specs.Members.{AskedIn, given_for};
 
 use crate::answers::{Answer, Found};
 use fringe::fringes::Fringe;
@@ -31,7 +30,7 @@ fn tell<M: Measure + Copy, G: Map>(
     found: Findings<M>,
     list: &mut [Place],
 ) -> Option<Found<M>>
-    ensures { (n : ℕ) (x : Both M) → Left (G.Map.model map.now) fore.now back.now found x → (M.Order.leq (M.Order.thing M.Measure.top) (M.Order.thing x.best) ≡ false → Unspliced n x) → n ≤ length list.old → Tells (answer_of (ops_of M.Order.thing M.Order.leq M.Measure.plus M.Measure.nil M.Measure.top) n x).found result list.old list.new }
+    ensures { (n : ℕ) (x : Both M) → Left (G.Map.model map.now) fore.now back.now found x → (M.Order.leq (M.Order.thing M.Measure.top) (M.Order.thing x.best) ≡ false → Unspliced n x) → n ≤ length list.old → Tells (answer_of (operations M.Order M.Measure.own) n x).found result list.old list.new }
 {
     if found.best.less(&M::blocked()) {
         let places = write_route(map, fore, back, found.meet, list);
@@ -60,8 +59,8 @@ pub fn ask<M: Measure + Copy, G: Map, B: Map, F: Fringe<M>, N: Fringe<M>>(
     ensures near_well { F.Fringe.well near.new }
     ensures far { Emptied (N.Fringe.meaning far.old) (N.Fringe.meaning far.new) }
     ensures far_well { N.Fringe.well far.new }
-    ensures laws { CostLaws M.Order.thing M.Order.leq M.Measure.plus M.Measure.nil M.Measure.top M.Measure.cost M.Measure.code }
-    ensures answer { Asked (G.Map.model asked.now.map.now) (B.Map.model asked.now.base.now).places asked.now.start.0 asked.now.goal.0 (length fore.old) (length back.old) (F.Fringe.meaning near.old).capacity (N.Fringe.meaning far.old).capacity → (G.Map.model asked.now.map.now).places ≤ length list.old → Answers (answer (ops_of M.Order.thing M.Order.leq M.Measure.plus M.Measure.nil M.Measure.top) (given M.Measure.nil M.Measure.cost (G.Map.model asked.now.map.now) (B.Map.model asked.now.base.now) (stored M.Measure.decoded asked.now.table.now) asked.now.pairs) asked.now.start.0 asked.now.goal.0) list.old list.new result }
+    ensures laws { Lawful M.Order M.Measure.own }
+    ensures answer { AskedIn G.Map.model B.Map.model asked.now (length fore.old) (length back.old) (F.Fringe.meaning near.old).capacity (N.Fringe.meaning far.old).capacity → (G.Map.model asked.now.map.now).places ≤ length list.old → Answers (answer (operations M.Order M.Measure.own) (given_for G.Map.model B.Map.model asked.now M.Order M.Measure.own) asked.now.start.0 asked.now.goal.0) list.old list.new result }
 {
     let found = search(asked, fore, near, back, far);
     let way = tell(asked.map, fore, back, found, list);

@@ -4,3 +4,4 @@ pub mod Settling
 pub mod Expansions
 pub mod Meetings
 pub mod Views
+pub mod Sides

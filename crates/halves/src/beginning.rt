@@ -2,7 +2,8 @@
 ghost use Rattle.std.specs.Prelude.{◌≡◌, ◌≤◌, length, replicate, slice_set};
 ghost use Rattle.routes.specs.declared.labels.Label.TheVariants.{Blank, Reached as reached};
 ghost use Rattle.routes.specs.declared.labels.Origin.TheVariants.{Start as start_origin};
-ghost use Rattle.halves.specs.Agreement.{Agree, Steady};
+ghost use Rattle.halves.specs.Sides.{Agrees};
+ghost use Rattle.halves.specs.Sides.{Agrees, Steadied};
 
 use crate::rows::blank;
 use fringe::fringes::Fringe;
@@ -27,8 +28,8 @@ pub fn begin<C: Order + Copy, F: Fringe<C>>(
     zero: C,
 )
     ensures labels { labels.new ≡ slice_set (replicate (length labels.old) Blank) start.0 (reached zero start_origin) }
-    ensures agree { length labels.old ≤ (F.Fringe.meaning fringe.old).capacity → Agree C.Order.thing C.Order.leq (F.Fringe.well fringe.new) (F.Fringe.meaning fringe.new) labels.new }
-    ensures steady { Steady (F.Fringe.well fringe.new) (F.Fringe.meaning fringe.old) (F.Fringe.meaning fringe.new) }
+    ensures agree { length labels.old ≤ (F.Fringe.meaning fringe.old).capacity → Agrees C.Order F.Fringe fringe.new labels.new }
+    ensures steady { Steadied F.Fringe fringe.old fringe.new }
 {
     blank(labels);
     fringe.clear();

@@ -1,8 +1,9 @@
 //! The open roads out of a place relaxed.
 ghost use Rattle.std.specs.Prelude.{◌≡◌, Some};
-ghost use Rattle.halves.specs.Agreement.{Agree, Steady};
+ghost use Rattle.halves.specs.Sides.{Agrees};
 ghost use Rattle.halves.specs.Expansions.{driven, driven_along};
 ghost use Rattle.map.specs.Model.{leaving};
+ghost use Rattle.halves.specs.Sides.{Agrees, Steadied};
 
 use crate::relaxing::relax;
 use fringe::fringes::Fringe;
@@ -22,8 +23,8 @@ fn drive<M: Measure + Copy, F: Fringe<M>>(
     road: Road,
 )
     ensures labels { labels.new ≡ driven M.Order.thing M.Order.leq M.Measure.plus M.Measure.cost cost number (Some road) labels.old }
-    ensures agree { Agree M.Order.thing M.Order.leq (F.Fringe.well fringe.old) (F.Fringe.meaning fringe.old) labels.old → Agree M.Order.thing M.Order.leq (F.Fringe.well fringe.new) (F.Fringe.meaning fringe.new) labels.new }
-    ensures steady { F.Fringe.well fringe.old → Steady (F.Fringe.well fringe.new) (F.Fringe.meaning fringe.old) (F.Fringe.meaning fringe.new) }
+    ensures agree { Agrees M.Order F.Fringe fringe.old labels.old → Agrees M.Order F.Fringe fringe.new labels.new }
+    ensures steady { F.Fringe.well fringe.old → Steadied F.Fringe fringe.old fringe.new }
 {
     match road.mark {
         Mark::Open => {
@@ -43,8 +44,8 @@ pub fn expand<M: Measure + Copy, G: Map, F: Fringe<M>>(
     fringe: &mut F,
 )
     ensures labels { labels.new ≡ driven_along M.Order.thing M.Order.leq M.Measure.plus M.Measure.cost (G.Map.model map.now) cost (leaving (G.Map.model map.now) u.0) labels.old }
-    ensures agree { Agree M.Order.thing M.Order.leq (F.Fringe.well fringe.old) (F.Fringe.meaning fringe.old) labels.old → Agree M.Order.thing M.Order.leq (F.Fringe.well fringe.new) (F.Fringe.meaning fringe.new) labels.new }
-    ensures steady { F.Fringe.well fringe.old → Steady (F.Fringe.well fringe.new) (F.Fringe.meaning fringe.old) (F.Fringe.meaning fringe.new) }
+    ensures agree { Agrees M.Order F.Fringe fringe.old labels.old → Agrees M.Order F.Fringe fringe.new labels.new }
+    ensures steady { F.Fringe.well fringe.old → Steadied F.Fringe fringe.old fringe.new }
 {
     for number in map.departures(u) {
         if let Some(road) = map.road(number) {

@@ -1,7 +1,8 @@
 //! A cost offered to a place.
 ghost use Rattle.std.specs.Prelude.{◌≡◌};
 ghost use Rattle.halves.specs.Labels.{improves, offered_at};
-ghost use Rattle.halves.specs.Agreement.{Agree, Steady};
+ghost use Rattle.halves.specs.Sides.{Agrees};
+ghost use Rattle.halves.specs.Sides.{Agrees, Steadied};
 
 use fringe::fringes::Fringe;
 use fringe::order::Order;
@@ -29,8 +30,8 @@ pub fn relax<C: Order + Copy, F: Fringe<C>>(
     road: RoadId,
 )
     ensures labels { labels.new ≡ offered_at C.Order.thing C.Order.leq cost road place.0 labels.old }
-    ensures agree { Agree C.Order.thing C.Order.leq (F.Fringe.well fringe.old) (F.Fringe.meaning fringe.old) labels.old → Agree C.Order.thing C.Order.leq (F.Fringe.well fringe.new) (F.Fringe.meaning fringe.new) labels.new }
-    ensures steady { F.Fringe.well fringe.old → Steady (F.Fringe.well fringe.new) (F.Fringe.meaning fringe.old) (F.Fringe.meaning fringe.new) }
+    ensures agree { Agrees C.Order F.Fringe fringe.old labels.old → Agrees C.Order F.Fringe fringe.new labels.new }
+    ensures steady { F.Fringe.well fringe.old → Steadied F.Fringe fringe.old fringe.new }
 {
     let i = usize::from(place);
     if i < labels.len() && better(cost, labels[i]) {

@@ -2,8 +2,9 @@
 ghost use Rattle.std.specs.Prelude.{◌≡◌, length};
 ghost use Rattle.halves.specs.Labels.{spot, settled_at, paired};
 ghost use Rattle.routes.specs.Parts.{finished, waiting};
-ghost use Rattle.halves.specs.Agreement.{Agree, Steady};
+ghost use Rattle.halves.specs.Sides.{Agrees};
 ghost use Rattle.halves.specs.Settling.{Settling};
+ghost use Rattle.halves.specs.Sides.{Agrees, Steadied};
 
 use fringe::fringes::Fringe;
 use fringe::order::Order;
@@ -38,9 +39,9 @@ pub fn settle_least<C: Order + Copy, F: Fringe<C>>(
     fringe: &mut F,
 ) -> Option<(Place, C)>
     ensures sized { length labels.new ≡ length labels.old }
-    ensures labels { Agree C.Order.thing C.Order.leq (F.Fringe.well fringe.old) (F.Fringe.meaning fringe.old) labels.old → Settling C.Order.thing C.Order.leq labels.old labels.new result }
-    ensures agree { Agree C.Order.thing C.Order.leq (F.Fringe.well fringe.old) (F.Fringe.meaning fringe.old) labels.old → Agree C.Order.thing C.Order.leq (F.Fringe.well fringe.new) (F.Fringe.meaning fringe.new) labels.new }
-    ensures steady { F.Fringe.well fringe.old → Steady (F.Fringe.well fringe.new) (F.Fringe.meaning fringe.old) (F.Fringe.meaning fringe.new) }
+    ensures labels { Agrees C.Order F.Fringe fringe.old labels.old → Settling C.Order.thing C.Order.leq labels.old labels.new result }
+    ensures agree { Agrees C.Order F.Fringe fringe.old labels.old → Agrees C.Order F.Fringe fringe.new labels.new }
+    ensures steady { F.Fringe.well fringe.old → Steadied F.Fringe fringe.old fringe.new }
 {
     let (place, _) = fringe.take()?;
     settle(labels, place)

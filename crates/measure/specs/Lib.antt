@@ -1,3 +1,4 @@
 pub mod Costs
 pub mod Times
 pub mod Steeps
+pub mod Members

@@ -2,8 +2,8 @@
 ghost use Rattle.std.specs.Prelude.{◌≡◌, ◌≤◌, length, replicate};
 ghost use Rattle.fringe.specs.Fringes.{Emptied};
 ghost use Rattle.routes.specs.declared.labels.Label.TheVariants.{Blank};
-ghost use Rattle.halves.specs.Agreement.{Agree, Steady};
 ghost use Rattle.preparing.specs.Beginnings.{Sown, ReachedAt};
+ghost use Rattle.halves.specs.Sides.{Agrees, Steadied};
 
 use fringe::fringes::Fringe;
 use fringe::order::Order;
@@ -32,7 +32,7 @@ fn reach<C: Order + Copy, F: Fringe<C>>(
     cost: C,
 )
     ensures reached { ReachedAt C.Order.thing C.Order.leq F.Fringe.well F.Fringe.meaning labels.old fringe.old place.0 cost labels.new fringe.new }
-    ensures steady { F.Fringe.well fringe.old → Steady (F.Fringe.well fringe.new) (F.Fringe.meaning fringe.old) (F.Fringe.meaning fringe.new) }
+    ensures steady { F.Fringe.well fringe.old → Steadied F.Fringe fringe.old fringe.new }
 {
     let i = usize::from(place);
     if i < labels.len() {
@@ -49,8 +49,8 @@ pub fn begin<M: Measure + Copy, G: Map, F: Fringe<M>>(
     fringe: &mut F,
 )
     ensures labels { Sown (G.Map.model map.now) district.0 M.Measure.nil (length labels.old) labels.new }
-    ensures agree { length labels.old ≤ (F.Fringe.meaning fringe.old).capacity → Agree M.Order.thing M.Order.leq (F.Fringe.well fringe.new) (F.Fringe.meaning fringe.new) labels.new }
-    ensures steady { Steady (F.Fringe.well fringe.new) (F.Fringe.meaning fringe.old) (F.Fringe.meaning fringe.new) }
+    ensures agree { length labels.old ≤ (F.Fringe.meaning fringe.old).capacity → Agrees M.Order F.Fringe fringe.new labels.new }
+    ensures steady { Steadied F.Fringe fringe.old fringe.new }
 {
     wipe(labels, fringe);
     for i in 0..map.places() {

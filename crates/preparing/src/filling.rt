@@ -1,7 +1,7 @@
 //! The row of a district, from the labels at the end of a spread.
 ghost use Rattle.std.specs.Prelude.{◌≡◌, ◌<◌};
-ghost use Rattle.measure.specs.Costs.{CostLaws};
 ghost use Rattle.preparing.specs.Entries.{Lowest, cost_or, OwnEntry, EntryBy, RowBy};
+ghost use Rattle.measure.specs.Members.{Lawful};
 
 use crate::rooting::root_of;
 use fringe::order::Order;
@@ -61,7 +61,7 @@ fn lowest<G: Map>(map: &G, district: District) -> Option<Place>
 
 /// The entry of a district in its own row: nothing, and its lowest place twice.
 fn own_entry<M: Measure + Copy, G: Map>(map: &G, district: District) -> Entry
-    ensures laws { CostLaws M.Order.thing M.Order.leq M.Measure.plus M.Measure.nil M.Measure.top M.Measure.cost M.Measure.code }
+    ensures laws { Lawful M.Order M.Measure.own }
     ensures own { OwnEntry M.Order.thing M.Measure.decoded M.Measure.nil (G.Map.model map.now) district.0 result }
 {
     let number = written(M::zero());
@@ -81,7 +81,7 @@ pub fn fill<M: Measure + Copy, G: Map>(
     labels: &[Label<M>],
     firsts: &[Option<Place>; 64],
 ) -> [Entry; 64]
-    ensures laws { CostLaws M.Order.thing M.Order.leq M.Measure.plus M.Measure.nil M.Measure.top M.Measure.cost M.Measure.code }
+    ensures laws { Lawful M.Order M.Measure.own }
     ensures row { RowBy M.Order.thing M.Measure.decoded M.Measure.top (G.Map.model map.now) labels.now M.Measure.nil district.0 firsts.now result }
 {
     let own = own_entry::<M, G>(map, district);

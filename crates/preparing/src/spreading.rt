@@ -1,8 +1,8 @@
 //! A spread, from its beginning until nothing is reached.
 ghost use Rattle.std.specs.Prelude.{◌≡◌};
-ghost use Rattle.halves.specs.Agreement.{Agree, Steady};
 ghost use Rattle.preparing.specs.Firsts.{sooner, noted};
 ghost use Rattle.preparing.specs.Runs.{Ran};
+ghost use Rattle.halves.specs.Sides.{Agrees, Steadied};
 
 use fringe::fringes::Fringe;
 use fringe::order::Order;
@@ -39,8 +39,8 @@ pub fn spread<M: Measure + Copy, G: Map, F: Fringe<M>>(
     fringe: &mut F,
     firsts: &mut [Option<Place>],
 ) -> usize
-    ensures ran { Agree M.Order.thing M.Order.leq (F.Fringe.well fringe.old) (F.Fringe.meaning fringe.old) labels.old → Ran M.Order.thing M.Order.leq M.Measure.plus M.Measure.cost (G.Map.model map.now) labels.old firsts.old result labels.new firsts.new }
-    ensures steady { F.Fringe.well fringe.old → Steady (F.Fringe.well fringe.new) (F.Fringe.meaning fringe.old) (F.Fringe.meaning fringe.new) }
+    ensures ran { Agrees M.Order F.Fringe fringe.old labels.old → Ran M.Order.thing M.Order.leq M.Measure.plus M.Measure.cost (G.Map.model map.now) labels.old firsts.old result labels.new firsts.new }
+    ensures steady { F.Fringe.well fringe.old → Steadied F.Fringe fringe.old fringe.new }
 {
     for taken in 0..labels.len() {
         let Some(best) = settle_least(labels, fringe) else {

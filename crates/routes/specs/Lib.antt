@@ -23,3 +23,4 @@ pub mod Sweeps
 pub mod Tracking
 pub mod Measured
 pub mod Unspliced
+pub mod Members

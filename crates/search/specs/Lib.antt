@@ -3,3 +3,4 @@ pub mod Turns
 pub mod Rounds
 pub mod Asked
 pub mod Outset
+pub mod Members

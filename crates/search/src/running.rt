@@ -1,8 +1,10 @@
 //! The sides take turns.
 ghost use Rattle.std.specs.Prelude.{◌≡◌, ℕ, ◌+◌};
-ghost use Rattle.halves.specs.Agreement.{Steady};
-ghost use Rattle.routes.specs.Search.{Given, Both, ops_of, run};
-ghost use Rattle.search.specs.Rounds.{swapped, Begun, Left};
+ghost use Rattle.routes.specs.Search.{Given, Both, run};
+ghost use Rattle.search.specs.Rounds.{swapped, Left};
+ghost use Rattle.halves.specs.Sides.{Steadied};
+ghost use Rattle.routes.specs.Members.{operations};
+ghost use Rattle.search.specs.Members.{Begins};
 
 use crate::guides::Guide;
 use crate::turning::turn;
@@ -36,9 +38,9 @@ pub fn run<M: Measure + Copy, G: Map, B: Map, F: Fringe<M>, N: Fringe<M>>(
     far: &mut N,
     begun: Findings<M>,
 ) -> Findings<M>
-    ensures left { (asked : Given M) (s t : ℕ) (x : Both M) → Begun M.Order.thing M.Order.leq M.Measure.plus M.Measure.nil M.Measure.top M.Measure.cost M.Measure.code M.Measure.decoded (G.Map.model map.now) (B.Map.model along.now.base.now) (B.Map.model against.now.base.now) along.now against.now (F.Fringe.well near.old) (F.Fringe.meaning near.old) (N.Fringe.well far.old) (N.Fringe.meaning far.old) fore.old back.old begun asked s t x → Left (G.Map.model map.now) fore.new back.new result (run (ops_of M.Order.thing M.Order.leq M.Measure.plus M.Measure.nil M.Measure.top) ((G.Map.model map.now).places + (G.Map.model map.now).places) asked s t x) }
-    ensures near { F.Fringe.well near.old → Steady (F.Fringe.well near.new) (F.Fringe.meaning near.old) (F.Fringe.meaning near.new) }
-    ensures far { N.Fringe.well far.old → Steady (N.Fringe.well far.new) (N.Fringe.meaning far.old) (N.Fringe.meaning far.new) }
+    ensures left { (asked : Given M) (s t : ℕ) (x : Both M) → Begins M.Order M.Measure.own F.Fringe N.Fringe (G.Map.model map.now) B.Map.model along.now against.now near.old far.old fore.old back.old begun asked s t x → Left (G.Map.model map.now) fore.new back.new result (run (operations M.Order M.Measure.own) ((G.Map.model map.now).places + (G.Map.model map.now).places) asked s t x) }
+    ensures near { F.Fringe.well near.old → Steadied F.Fringe near.old near.new }
+    ensures far { N.Fringe.well far.old → Steadied N.Fringe far.old far.new }
 {
     let turned = Turned { of: map };
     let mut found = begun;

@@ -1,16 +1,13 @@
 //! The whole search.
 ghost use Rattle.std.specs.Prelude.{◌≡◌, ◌<◌, false, length};
-ghost use Rattle.halves.specs.Agreement.{Steady};
-ghost use Rattle.measure.specs.Costs.{CostLaws};
-ghost use Rattle.routes.specs.Asking.{given};
-ghost use Rattle.routes.specs.Search.{ops_of, search_best};
 ghost use Rattle.routes.specs.Unspliced.{Unspliced};
-ghost use Rattle.table.specs.Views.{stored};
 ghost use Rattle.search.specs.declared.guides.Way.TheVariants.{Forward, Backward};
-ghost use Rattle.search.specs.Asked.{Asked};
 ghost use Rattle.search.specs.Guides.{GuideOf};
 ghost use Rattle.search.specs.Outset.{outset};
 ghost use Rattle.search.specs.Rounds.{Left};
+ghost use Rattle.halves.specs.Sides.{Steadied};
+ghost use Rattle.measure.specs.Members.{Lawful};
+ghost use Rattle.search.specs.Members.{AskedIn, ended};
 
 use crate::guides::{Guide, Question, Way};
 use crate::running::run;
@@ -90,11 +87,11 @@ pub fn search<M: Measure + Copy, G: Map, B: Map, F: Fringe<M>, N: Fringe<M>>(
     back: &mut [Label<M>],
     far: &mut N,
 ) -> Findings<M>
-    ensures left { Asked (G.Map.model asked.now.map.now) (B.Map.model asked.now.base.now).places asked.now.start.0 asked.now.goal.0 (length fore.old) (length back.old) (F.Fringe.meaning near.old).capacity (N.Fringe.meaning far.old).capacity → Left (G.Map.model asked.now.map.now) fore.new back.new result (search_best (ops_of M.Order.thing M.Order.leq M.Measure.plus M.Measure.nil M.Measure.top) (given M.Measure.nil M.Measure.cost (G.Map.model asked.now.map.now) (B.Map.model asked.now.base.now) (stored M.Measure.decoded asked.now.table.now) asked.now.pairs) asked.now.start.0 asked.now.goal.0) }
-    ensures halved { asked.now.start.0 < (G.Map.model asked.now.map.now).places → asked.now.goal.0 < (G.Map.model asked.now.map.now).places → M.Order.leq (M.Order.thing M.Measure.top) (M.Order.thing (search_best (ops_of M.Order.thing M.Order.leq M.Measure.plus M.Measure.nil M.Measure.top) (given M.Measure.nil M.Measure.cost (G.Map.model asked.now.map.now) (B.Map.model asked.now.base.now) (stored M.Measure.decoded asked.now.table.now) asked.now.pairs) asked.now.start.0 asked.now.goal.0).best) ≡ false → Unspliced (G.Map.model asked.now.map.now).places (search_best (ops_of M.Order.thing M.Order.leq M.Measure.plus M.Measure.nil M.Measure.top) (given M.Measure.nil M.Measure.cost (G.Map.model asked.now.map.now) (B.Map.model asked.now.base.now) (stored M.Measure.decoded asked.now.table.now) asked.now.pairs) asked.now.start.0 asked.now.goal.0) }
-    ensures laws { CostLaws M.Order.thing M.Order.leq M.Measure.plus M.Measure.nil M.Measure.top M.Measure.cost M.Measure.code }
-    ensures near { Steady (F.Fringe.well near.new) (F.Fringe.meaning near.old) (F.Fringe.meaning near.new) }
-    ensures far { Steady (N.Fringe.well far.new) (N.Fringe.meaning far.old) (N.Fringe.meaning far.new) }
+    ensures left { AskedIn G.Map.model B.Map.model asked.now (length fore.old) (length back.old) (F.Fringe.meaning near.old).capacity (N.Fringe.meaning far.old).capacity → Left (G.Map.model asked.now.map.now) fore.new back.new result (ended G.Map.model B.Map.model asked.now M.Order M.Measure.own) }
+    ensures halved { asked.now.start.0 < (G.Map.model asked.now.map.now).places → asked.now.goal.0 < (G.Map.model asked.now.map.now).places → M.Order.leq (M.Order.thing M.Measure.top) (M.Order.thing (ended G.Map.model B.Map.model asked.now M.Order M.Measure.own).best) ≡ false → Unspliced (G.Map.model asked.now.map.now).places (ended G.Map.model B.Map.model asked.now M.Order M.Measure.own) }
+    ensures laws { Lawful M.Order M.Measure.own }
+    ensures near { Steadied F.Fringe near.old near.new }
+    ensures far { Steadied N.Fringe far.old far.new }
 {
     let zero = M::zero();
     begin(fore, near, asked.start, zero);

@@ -1,12 +1,14 @@
 //! One turn of a side.
 ghost use Rattle.std.specs.Prelude.{◌≡◌, ℕ, List};
-ghost use Rattle.halves.specs.Agreement.{Agree, Steady};
-ghost use Rattle.measure.specs.Costs.{CostLaws};
 ghost use Rattle.routes.specs.declared.labels.Label.{Label as LabelOf};
 ghost use Rattle.routes.specs.Labels.{labels_view};
-ghost use Rattle.routes.specs.Search.{Given, Both, ops_of, nearest};
+ghost use Rattle.routes.specs.Search.{Given, Both, nearest};
 ghost use Rattle.search.specs.Guides.{Guides};
-ghost use Rattle.search.specs.Turns.{is_over, sum_reaches, Turning, Taken};
+ghost use Rattle.search.specs.Turns.{is_over, sum_reaches};
+ghost use Rattle.halves.specs.Sides.{Agrees, Steadied};
+ghost use Rattle.measure.specs.Members.{Lawful};
+ghost use Rattle.routes.specs.Members.{operations};
+ghost use Rattle.search.specs.Members.{AtTurn, Turned};
 
 use crate::guides::Guide;
 use fringe::fringes::Fringe;
@@ -30,7 +32,7 @@ fn is_done<M: Measure + Copy>(near: Option<(Place, M)>, far: Option<(Place, M)>,
 
 /// Whether the search is over: a side has nothing reached, or the sum of both sides' least costs is not below best.
 fn is_over<M: Measure + Copy, F: Fringe<M>, N: Fringe<M>>(near: &F, far: &N, best: M) -> bool
-    ensures { CostLaws M.Order.thing M.Order.leq M.Measure.plus M.Measure.nil M.Measure.top M.Measure.cost M.Measure.code → (f g : ℕ → ℕ) (mine theirs : List (LabelOf M)) → Agree M.Order.thing M.Order.leq (F.Fringe.well near.now) (F.Fringe.meaning near.now) mine → Agree M.Order.thing M.Order.leq (N.Fringe.well far.now) (N.Fringe.meaning far.now) theirs → result ≡ is_over (ops_of M.Order.thing M.Order.leq M.Measure.plus M.Measure.nil M.Measure.top) (nearest (ops_of M.Order.thing M.Order.leq M.Measure.plus M.Measure.nil M.Measure.top) 0 (labels_view f mine)) (nearest (ops_of M.Order.thing M.Order.leq M.Measure.plus M.Measure.nil M.Measure.top) 0 (labels_view g theirs)) best }
+    ensures { Lawful M.Order M.Measure.own → (f g : ℕ → ℕ) (mine theirs : List (LabelOf M)) → Agrees M.Order F.Fringe near.now mine → Agrees M.Order N.Fringe far.now theirs → result ≡ is_over (operations M.Order M.Measure.own) (nearest (operations M.Order M.Measure.own) 0 (labels_view f mine)) (nearest (operations M.Order M.Measure.own) 0 (labels_view g theirs)) best }
 {
     is_done(near.least(), far.least(), best)
 }
@@ -46,8 +48,8 @@ pub fn turn<M: Measure + Copy, G: Map, B: Map, F: Fringe<M>, N: Fringe<M>>(
     other_fringe: &N,
     found: Findings<M>,
 ) -> Option<Findings<M>>
-    ensures taken { CostLaws M.Order.thing M.Order.leq M.Measure.plus M.Measure.nil M.Measure.top M.Measure.cost M.Measure.code → (back_of : ℕ → ℕ) (asked : Given M) (s t : ℕ) (x : Both M) → Guides M.Measure.nil M.Measure.decoded (B.Map.model guide.now.base.now) guide.now asked s t → Turning M.Order.thing M.Order.leq M.Measure.cost (G.Map.model map.now) (B.Map.model guide.now.base.now).places back_of (F.Fringe.well fringe.old) (F.Fringe.meaning fringe.old) (N.Fringe.well other_fringe.now) (N.Fringe.meaning other_fringe.now) labels.old others.now found asked x → Taken M.Order.thing M.Order.leq (ops_of M.Order.thing M.Order.leq M.Measure.plus M.Measure.nil M.Measure.top) (G.Map.model map.now) back_of (F.Fringe.well fringe.new) (F.Fringe.meaning fringe.new) labels.old labels.new others.now asked s t x result }
-    ensures steady { F.Fringe.well fringe.old → Steady (F.Fringe.well fringe.new) (F.Fringe.meaning fringe.old) (F.Fringe.meaning fringe.new) }
+    ensures taken { Lawful M.Order M.Measure.own → (back_of : ℕ → ℕ) (asked : Given M) (s t : ℕ) (x : Both M) → Guides M.Measure.nil M.Measure.decoded (B.Map.model guide.now.base.now) guide.now asked s t → AtTurn M.Order M.Measure.own F.Fringe N.Fringe (G.Map.model map.now) (B.Map.model guide.now.base.now).places back_of fringe.old other_fringe.now labels.old others.now found asked x → Turned M.Order M.Measure.own F.Fringe (G.Map.model map.now) back_of fringe.new labels.old labels.new others.now asked s t x result }
+    ensures steady { F.Fringe.well fringe.old → Steadied F.Fringe fringe.old fringe.new }
 {
     if is_over(fringe, other_fringe, found.best) {
         return None;

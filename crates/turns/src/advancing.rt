@@ -1,14 +1,15 @@
 //! A place that was settled is pruned or expanded.
 ghost use Rattle.std.specs.Prelude.{◌≡◌, ℕ};
-ghost use Rattle.halves.specs.Agreement.{Agree, Steady};
 ghost use Rattle.halves.specs.Views.{meeting_view};
 ghost use Rattle.routes.specs.States.{Origin as Source};
 ghost use Rattle.routes.specs.Labels.{labels_view, start_at};
-ghost use Rattle.routes.specs.Search.{Given, Both, Half, ops_of, lowered, taken, step};
+ghost use Rattle.routes.specs.Search.{Given, Both, Half, lowered, taken, step};
 ghost use Rattle.turns.specs.Findings.{Beside, Shown, FewTurns};
 ghost use Rattle.turns.specs.Advances.{SettledAt};
 ghost use Rattle.turns.specs.Turnings.{pruned_by, expanded_by};
 ghost use Rattle.table.specs.Views.{ends_of};
+ghost use Rattle.halves.specs.Sides.{Agrees, Steadied};
+ghost use Rattle.routes.specs.Members.{operations};
 
 use crate::bounds::{gate_after, is_too_dear, lesser, upper_through};
 use crate::findings::{Between, Findings};
@@ -29,7 +30,7 @@ pub fn upper_after<M: Measure + Copy>(
     others: &[Label<M>],
     upper: M,
 ) -> M
-    ensures { (back_of : ℕ → ℕ) → result ≡ lowered (ops_of M.Order.thing M.Order.leq M.Measure.plus M.Measure.nil M.Measure.top) (ends_of pair) u.0 cost (labels_view back_of others.now) upper }
+    ensures { (back_of : ℕ → ℕ) → result ≡ lowered (operations M.Order M.Measure.own) (ends_of pair) u.0 cost (labels_view back_of others.now) upper }
 {
     let Some(ends) = pair else {
         return upper;
@@ -96,9 +97,9 @@ pub fn advance<M: Measure + Copy, G: Map, F: Fringe<M>>(
     others: &[Label<M>],
     found: Findings<M>,
 ) -> Findings<M>
-    ensures shown { (back_of : ℕ → ℕ) (asked : Given M) (s t : ℕ) (x : Both M) (o : Source) → SettledAt M.Measure.cost (G.Map.model map.now) back_of labels.old others.now found u.0 cost gate between asked s t x o → Shown (start_at (G.Map.model map.now)) back_of labels.new others.now result (step (ops_of M.Order.thing M.Order.leq M.Measure.plus M.Measure.nil M.Measure.top) asked s t x (record { place = u.0; cost = cost; origin = o })) }
-    ensures agree { Agree M.Order.thing M.Order.leq (F.Fringe.well fringe.old) (F.Fringe.meaning fringe.old) labels.old → Agree M.Order.thing M.Order.leq (F.Fringe.well fringe.new) (F.Fringe.meaning fringe.new) labels.new }
-    ensures steady { F.Fringe.well fringe.old → Steady (F.Fringe.well fringe.new) (F.Fringe.meaning fringe.old) (F.Fringe.meaning fringe.new) }
+    ensures shown { (back_of : ℕ → ℕ) (asked : Given M) (s t : ℕ) (x : Both M) (o : Source) → SettledAt M.Measure.cost (G.Map.model map.now) back_of labels.old others.now found u.0 cost gate between asked s t x o → Shown (start_at (G.Map.model map.now)) back_of labels.new others.now result (step (operations M.Order M.Measure.own) asked s t x (record { place = u.0; cost = cost; origin = o })) }
+    ensures agree { Agrees M.Order F.Fringe fringe.old labels.old → Agrees M.Order F.Fringe fringe.new labels.new }
+    ensures steady { F.Fringe.well fringe.old → Steadied F.Fringe fringe.old fringe.new }
 {
     let own_gate = gate_after(found.own_gate, gate, cost);
     let paid = cost.add(between.cost);

@@ -1,8 +1,9 @@
 //! The bounds that a search prunes by.
 ghost use Rattle.std.specs.Prelude.{◌≡◌, ℕ, not, ◌||◌};
 ghost use Rattle.routes.specs.Labels.{label_view};
-ghost use Rattle.routes.specs.Search.{ops_of, least_of, through, unsettled, too_dear, gate_after};
+ghost use Rattle.routes.specs.Search.{least_of, through, unsettled, too_dear, gate_after};
 ghost use Rattle.turns.specs.Options.{maybe};
+ghost use Rattle.routes.specs.Members.{operations};
 
 use fringe::order::Order;
 use measure::measures::Measure;
@@ -10,7 +11,7 @@ use routes::labels::Label;
 
 /// The lesser of two costs, and the first where they stand for one thing.
 pub fn lesser<M: Measure + Copy>(a: M, b: M) -> M
-    ensures { result ≡ least_of (ops_of M.Order.thing M.Order.leq M.Measure.plus M.Measure.nil M.Measure.top) a b }
+    ensures { result ≡ least_of (operations M.Order M.Measure.own) a b }
 {
     if b.less(&a) { b } else { a }
 }
@@ -18,7 +19,7 @@ pub fn lesser<M: Measure + Copy>(a: M, b: M) -> M
 /// The upper bound where one side paid `cost` up to the end of a stored pair, whose label on the other side is given: it
 /// falls to the sum, if that side settled it and the sum is less.
 pub fn upper_through<M: Measure + Copy>(label: Label<M>, cost: M, upper: M) -> M
-    ensures { (start_of : ℕ → ℕ) → result ≡ through (ops_of M.Order.thing M.Order.leq M.Measure.plus M.Measure.nil M.Measure.top) (label_view start_of label) cost upper }
+    ensures { (start_of : ℕ → ℕ) → result ≡ through (operations M.Order M.Measure.own) (label_view start_of label) cost upper }
 {
     match label.final_cost() {
         Some(rest) => lesser(cost.add(rest), upper),
@@ -51,7 +52,7 @@ pub fn is_too_dear<M: Measure + Copy>(
     cost: M,
     upper: M,
 ) -> bool
-    ensures { (start_of : ℕ → ℕ) → result ≡ too_dear (ops_of M.Order.thing M.Order.leq M.Measure.plus M.Measure.nil M.Measure.top) (maybe own) (maybe other) (label_view start_of label) cost upper }
+    ensures { (start_of : ℕ → ℕ) → result ≡ too_dear (operations M.Order M.Measure.own) (maybe own) (maybe other) (label_view start_of label) cost upper }
 {
     match (own, other) {
         (Some(_), Some(gate)) => is_unsettled(label) && exceeds(cost.add(gate), upper),
