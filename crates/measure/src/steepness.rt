@@ -22,6 +22,7 @@ impl Order for Steepness {
     ghost ordered = { Prim.search rules };
 
     fn less(&self, other: &Steepness) -> bool {
+        // On the numbers: a derived order does not say that they are within range.
         self.0 < other.0
     }
 }

@@ -21,6 +21,7 @@ impl Order for Time {
     ghost ordered = { Prim.search rules };
 
     fn less(&self, other: &Time) -> bool {
+        // On the numbers: a derived order does not say that they are within range.
         self.0 < other.0
     }
 }

@@ -86,6 +86,7 @@ pub fn fill<M: Measure + Copy, G: Map>(
 {
     let own = own_entry::<M, G>(map, district);
     let mut row = [own; 64];
+    // Of a `map` over the array the proof does not learn which entry stands where.
     for j in 0..64 {
         if j != usize::from(district) {
             row[j] = entry_by(map, labels, firsts[j]);
