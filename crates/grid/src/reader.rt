@@ -4,10 +4,10 @@ ghost use Rattle.map.proofs.Grids.{grid_keeps_rules};
 ghost use Rattle.grid.specs.Made.{figures_of, in_range};
 
 use crate::grids::Grid;
-use crate::sides::{direction_of, nth_present};
+use crate::sides::{DIRECTIONS, nth_present};
 use crate::tiles::tiles_along;
 use fringe::Place;
-use map::{Direction, District, Map, Mark, Road, RoadId};
+use map::{District, Map, Mark, Road, RoadId};
 
 impl Map for Grid {
     ghost model = { λ g. grid_model (figures_of g) };
@@ -39,7 +39,7 @@ impl Map for Grid {
             return None;
         }
         let start = number.0 / 4;
-        let end = self.neighbour(start, direction_of(number.0 % 4))?;
+        let end = self.neighbour(start, DIRECTIONS[usize::from(number.0 % 4)])?;
         Some(Road {
             start: Place(start),
             end: Place(end),
@@ -53,21 +53,13 @@ impl Map for Grid {
         if place.0 >= self.place_count() {
             return None;
         }
-        let north = self.leaving_to(place.0, Direction::North);
-        let west = self.leaving_to(place.0, Direction::West);
-        let east = self.leaving_to(place.0, Direction::East);
-        let south = self.leaving_to(place.0, Direction::South);
-        nth_present([north, west, east, south], j)
+        nth_present(DIRECTIONS.map(|d| self.leaving_to(place.0, d)), j)
     }
 
     fn arrival(&self, place: Place, j: usize) -> Option<RoadId> {
         if place.0 >= self.place_count() {
             return None;
         }
-        let north = self.arriving_from(place.0, Direction::North);
-        let west = self.arriving_from(place.0, Direction::West);
-        let east = self.arriving_from(place.0, Direction::East);
-        let south = self.arriving_from(place.0, Direction::South);
-        nth_present([north, west, east, south], j)
+        nth_present(DIRECTIONS.map(|d| self.arriving_from(place.0, d)), j)
     }
 }

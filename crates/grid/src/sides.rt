@@ -1,23 +1,19 @@
 //! The four sides of a place.
 ghost use Rattle.std.specs.Prelude.{◌≡◌, ◌<◌, ◌≤◌};
-ghost use Rattle.map.specs.Grids.{place_count, place_at, neighbour, direction_of, opposite, road_number, leaving, arriving, present};
+ghost use Rattle.map.specs.Grids.{place_count, place_at, neighbour, opposite, road_number, leaving, arriving, present};
 ghost use Rattle.grid.specs.Made.{figures_of};
 ghost use Rattle.grid.specs.Sides.{nth};
 
 use crate::grids::Grid;
 use map::{Direction, RoadId};
 
-/// The direction of a number below 4.
-pub(crate) fn direction_of(number: u16) -> Direction
-    ensures { result ≡ direction_of number }
-{
-    match number {
-        0 => Direction::North,
-        1 => Direction::West,
-        2 => Direction::East,
-        _ => Direction::South,
-    }
-}
+/// The directions, each at its number.
+pub(crate) const DIRECTIONS: [Direction; 4] = [
+    Direction::North,
+    Direction::West,
+    Direction::East,
+    Direction::South,
+];
 
 /// The way back.
 fn opposite_of(direction: Direction) -> Direction
@@ -96,14 +92,5 @@ impl Grid {
 pub(crate) fn nth_present(numbers: [Option<u16>; 4], j: usize) -> Option<RoadId>
     ensures { result ≡ nth (present numbers) j }
 {
-    let mut left = j;
-    for number in numbers {
-        if let Some(r) = number {
-            if left == 0 {
-                return Some(RoadId(r));
-            }
-            left -= 1;
-        }
-    }
-    None
+    numbers.into_iter().flatten().nth(j).map(RoadId)
 }
