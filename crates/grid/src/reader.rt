@@ -27,21 +27,14 @@ impl Map for Grid {
     }
 
     fn district(&self, place: Place) -> Option<District> {
-        if place.0 < self.place_count() {
-            Some(District(self.tile_of(place.0) as u8))
-        } else {
-            None
-        }
+        Some(District(self.spot(place)?.tile() as u8))
     }
 
     fn road(&self, number: RoadId) -> Option<Road> {
-        if number.0 >= 4 * self.place_count() {
-            return None;
-        }
-        let start = number.0 / 4;
-        let end = self.neighbour(start, DIRECTIONS[usize::from(number.0 % 4)])?;
+        let start = self.spot(Place(number.0 / 4))?;
+        let end = start.neighbour(DIRECTIONS[usize::from(number.0 % 4)])?;
         Some(Road {
-            start: Place(start),
+            start: Place(start.place),
             end: Place(end),
             seconds: self.seconds,
             steepness: self.steepness,
@@ -50,16 +43,12 @@ impl Map for Grid {
     }
 
     fn departure(&self, place: Place, j: usize) -> Option<RoadId> {
-        if place.0 >= self.place_count() {
-            return None;
-        }
-        nth_present(DIRECTIONS.map(|d| self.leaving_to(place.0, d)), j)
+        let spot = self.spot(place)?;
+        nth_present(DIRECTIONS.map(|d| spot.leaving_to(d)), j)
     }
 
     fn arrival(&self, place: Place, j: usize) -> Option<RoadId> {
-        if place.0 >= self.place_count() {
-            return None;
-        }
-        nth_present(DIRECTIONS.map(|d| self.arriving_from(place.0, d)), j)
+        let spot = self.spot(place)?;
+        nth_present(DIRECTIONS.map(|d| spot.arriving_from(d)), j)
     }
 }

@@ -5,6 +5,7 @@ ghost use Rattle.grid.specs.Made.{figures_of};
 ghost use Rattle.grid.specs.Sides.{nth};
 
 use crate::grids::Grid;
+use crate::spots::Spot;
 use map::{Direction, RoadId};
 
 /// The directions, each at its number.
@@ -15,7 +16,7 @@ pub(crate) const DIRECTIONS: [Direction; 4] = [
     Direction::South,
 ];
 
-/// The way back.
+/// The way back. A function, since the crate that declares a type declares its methods.
 fn opposite_of(direction: Direction) -> Direction
     ensures { result ≡ opposite direction }
 {
@@ -52,38 +53,38 @@ impl Grid {
     {
         row * self.columns + column
     }
+}
 
-    /// The place next to a place in a direction.
-    pub(crate) fn neighbour(&self, place: u16, direction: Direction) -> Option<u16>
-        requires { place < place_count (figures_of self.now) }
-        ensures { result ≡ neighbour (figures_of self.now) place direction }
+impl Spot<'_> {
+    /// The place next to it in a direction.
+    pub(crate) fn neighbour(&self, direction: Direction) -> Option<u16>
+        ensures { result ≡ neighbour (figures_of self.now.grid.now) self.now.place direction }
     {
-        let row = place / self.columns;
-        let column = place % self.columns;
+        let grid = self.grid;
+        let row = self.row();
+        let column = self.column();
         match direction {
-            Direction::North if row > 0 => Some(self.place_at(row - 1, column)),
-            Direction::West if column > 0 => Some(self.place_at(row, column - 1)),
-            Direction::East if column + 1 < self.columns => Some(self.place_at(row, column + 1)),
-            Direction::South if row + 1 < self.rows => Some(self.place_at(row + 1, column)),
+            Direction::North if row > 0 => Some(grid.place_at(row - 1, column)),
+            Direction::West if column > 0 => Some(grid.place_at(row, column - 1)),
+            Direction::East if column + 1 < grid.columns => Some(grid.place_at(row, column + 1)),
+            Direction::South if row + 1 < grid.rows => Some(grid.place_at(row + 1, column)),
             _ => None,
         }
     }
 
-    /// The number of the road that leaves a place in a direction.
-    pub(crate) fn leaving_to(&self, place: u16, direction: Direction) -> Option<u16>
-        requires { place < place_count (figures_of self.now) }
-        ensures { result ≡ leaving (figures_of self.now) place direction }
+    /// The number of the road that leaves it in a direction.
+    pub(crate) fn leaving_to(&self, direction: Direction) -> Option<u16>
+        ensures { result ≡ leaving (figures_of self.now.grid.now) self.now.place direction }
     {
-        self.neighbour(place, direction)?;
-        Some(road_number(place, direction))
+        self.neighbour(direction)?;
+        Some(road_number(self.place, direction))
     }
 
-    /// The number of the road that comes to a place from a direction.
-    pub(crate) fn arriving_from(&self, place: u16, direction: Direction) -> Option<u16>
-        requires { place < place_count (figures_of self.now) }
-        ensures { result ≡ arriving (figures_of self.now) place direction }
+    /// The number of the road that comes to it from a direction.
+    pub(crate) fn arriving_from(&self, direction: Direction) -> Option<u16>
+        ensures { result ≡ arriving (figures_of self.now.grid.now) self.now.place direction }
     {
-        let origin = self.neighbour(place, direction)?;
+        let origin = self.neighbour(direction)?;
         Some(road_number(origin, opposite_of(direction)))
     }
 }
