@@ -16,21 +16,19 @@ pub(crate) fn number_at(bytes: &[u8], at: usize) -> u16
 }
 
 /// How many places the counts of a cartridge give.
-pub(crate) fn place_count(bytes: &[u8]) -> usize
+pub(crate) fn place_count(bytes: &[u8]) -> u16
     requires { 8 ≤ length bytes.now }
-    ensures count { result ≡ places bytes.now }
-    ensures few { result ≤ 65535 }
+    ensures { result ≡ places bytes.now }
 {
-    usize::from(number_at(bytes, 3))
+    number_at(bytes, 3)
 }
 
 /// How many road numbers they give.
-pub(crate) fn road_count(bytes: &[u8]) -> usize
+pub(crate) fn road_count(bytes: &[u8]) -> u16
     requires { 8 ≤ length bytes.now }
-    ensures count { result ≡ roads bytes.now }
-    ensures few { result ≤ 65535 }
+    ensures { result ≡ roads bytes.now }
 {
-    usize::from(number_at(bytes, 6))
+    number_at(bytes, 6)
 }
 
 /// The road of an entry.
@@ -62,9 +60,8 @@ pub(crate) struct Fields<'a> {
 
 impl<'a> Fields<'a> {
     /// How many places there are.
-    pub(crate) fn place_count(&self) -> usize
-        ensures count { result ≡ places self.now.bytes.now }
-        ensures few { result ≤ 65535 }
+    pub(crate) fn place_count(&self) -> u16
+        ensures { result ≡ places self.now.bytes.now }
     {
         place_count(self.bytes)
     }
@@ -77,9 +74,8 @@ impl<'a> Fields<'a> {
     }
 
     /// How many road numbers there are.
-    pub(crate) fn road_count(&self) -> usize
-        ensures count { result ≡ roads self.now.bytes.now }
-        ensures few { result ≤ 65535 }
+    pub(crate) fn road_count(&self) -> u16
+        ensures { result ≡ roads self.now.bytes.now }
     {
         road_count(self.bytes)
     }
@@ -90,7 +86,8 @@ impl<'a> Fields<'a> {
         ensures few { length result.now ≤ 65535 }
         ensures each { (p : ℕ) → p < places self.now.bytes.now → slice_index result.now p ≡ district_of self.now.bytes.now p }
     {
-        &self.bytes[11..11 + self.place_count()]
+        let places = usize::from(self.place_count());
+        &self.bytes[11..11 + places]
     }
 
     /// The entry of each road.
@@ -99,8 +96,9 @@ impl<'a> Fields<'a> {
         ensures few { length result.now ≤ 65535 }
         ensures each { (r : ℕ) → r < roads self.now.bytes.now → road_in (slice_index_or result.now r []) ≡ road_of self.now.bytes.now r }
     {
-        let at = 14 + self.place_count();
-        self.bytes[at..at + 8 * self.road_count()].as_chunks().0
+        let at = 14 + usize::from(self.place_count());
+        let roads = usize::from(self.road_count());
+        self.bytes[at..at + 8 * roads].as_chunks().0
     }
 
     /// The entry of each arrival.
@@ -108,8 +106,9 @@ impl<'a> Fields<'a> {
         ensures count { length result.now ≡ roads self.now.bytes.now }
         ensures each { (i : ℕ) → i < roads self.now.bytes.now → number (slice_index_or result.now i []) 0 ≡ arrival_of self.now.bytes.now i }
     {
-        let at = 17 + self.place_count() + 8 * self.road_count();
-        self.bytes[at..at + 2 * self.road_count()].as_chunks().0
+        let roads = usize::from(self.road_count());
+        let at = 17 + usize::from(self.place_count()) + 8 * roads;
+        self.bytes[at..at + 2 * roads].as_chunks().0
     }
 
     /// The road of a number.

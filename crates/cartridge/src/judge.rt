@@ -46,8 +46,8 @@ fn walk(bytes: &[u8]) -> Result<Fields<'_>, Refusal>
     ensures { MatchResult result (λ f. (fields bytes.now ≡ None) × (f.bytes.now ≡ bytes.now)) (λ e. fields bytes.now ≡ Some e) }
 {
     let mut offset = walk_field(bytes, 0, Tag::Counts as u8, 5)?;
-    let places = place_count(bytes);
-    let roads = road_count(bytes);
+    let places = usize::from(place_count(bytes));
+    let roads = usize::from(road_count(bytes));
     let sizes = [
         (Tag::Districts as u8, places),
         (Tag::Roads as u8, 8 * roads),
@@ -64,18 +64,18 @@ fn walk(bytes: &[u8]) -> Result<Fields<'_>, Refusal>
 }
 
 /// Whether a road keeps the limits of a map with so many places.
-fn keeps_limits(road: Road, places: usize) -> bool
+fn keeps_limits(road: Road, places: u16) -> bool
     ensures { result ≡ within_limits places road }
 {
-    usize::from(road.start.0) < places
-        && usize::from(road.end.0) < places
+    road.start.0 < places
+        && road.end.0 < places
         && road.start != road.end
         && road.seconds <= 60000
         && road.steepness <= 1000
 }
 
 /// By what a road rises: its start and then its end. One that breaks a limit has none.
-fn road_key(entry: &[u8; 8], places: usize) -> Option<(u16, u16)>
+fn road_key(entry: &[u8; 8], places: u16) -> Option<(u16, u16)>
     ensures { result ≡ key_if (within_limits places (road_in entry.now)) (by_start (road_in entry.now)) }
 {
     let road = road_in(entry);

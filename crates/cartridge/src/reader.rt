@@ -39,7 +39,7 @@ impl<'a> Map for Cartridge<'a> {
     ghost sound = { λ c. accepted_keeps_rules c.bytes.now c.accepted };
 
     fn places(&self) -> usize {
-        self.fields().place_count()
+        usize::from(self.fields().place_count())
     }
 
     fn districts(&self) -> usize {
@@ -47,7 +47,7 @@ impl<'a> Map for Cartridge<'a> {
     }
 
     fn roads(&self) -> usize {
-        self.fields().road_count()
+        usize::from(self.fields().road_count())
     }
 
     fn district(&self, place: Place) -> Option<District> {

@@ -178,7 +178,9 @@ fn run(rt: &HostRuntime) -> anyhow::Result<()> {
         ("pairs", differences(heap, pair)?),
     ];
     for (kind, (heap, tree)) in kinds {
-        println!(rt; "{kind}: of {CALLS} calls {heap} differ at the heap, {tree} at the winner tree")?;
+        println!(rt;
+            "{kind}: of {CALLS} calls {heap} differ at the heap, {tree} at the winner tree"
+        )?;
     }
     Ok(())
 }

@@ -1,4 +1,4 @@
-use Rattle.std.proofs.Common.{◌≡◌, ℕ, ◌*◌, List, [], ◌∷◌, refl, arith}
+use Rattle.std.proofs.Common.{◌≡◌, ℕ, ◌*◌, List, [], ◌∷◌, refl, ◌∙◌, arith}
 use Rattle.format.specs.Bytes.{places, roads}
 use Rattle.format.specs.Reading.{fields}
 use Rattle.format.proofs.Accepted.{all_there}
@@ -17,7 +17,7 @@ returns-in_err-offset c =
 
 pub loop-tag-init : goal.loop-tag-init
 loop-tag-init c =
-    (step (begin c.args.bytes.now _ _ c.place_count-places.ensures.count c.road_count-roads.ensures.count) c.in_ok-offset.ensures, field_ends c.args.bytes.now 0 1 5 _ c.in_ok-offset.ensures)
+    (step (begin c.args.bytes.now _ _ (c.from-places.ensures ∙ c.place_count.ensures) (c.from-roads.ensures ∙ c.road_count.ensures)) c.in_ok-offset.ensures, field_ends c.args.bytes.now 0 1 5 _ c.in_ok-offset.ensures)
 
 pub returns-in_err-offset-2 : goal.returns-in_err-offset-2
 returns-in_err-offset-2 c =

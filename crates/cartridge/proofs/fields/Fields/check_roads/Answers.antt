@@ -13,7 +13,7 @@ returns-in-Some c =
     let n = c.roads.ensures.count in
     let f = c.in-Some.ensures.falls (road_key_of b) (λ i d k l q.
     let e : k ≡ key_if (within_limits c.place_count-places.result (road_in q.shown.now)) (by_start (road_in q.shown.now)) = search rules in
-    road_keyed b i _ _ k c.place_count-places.ensures.count (ap road_in (q.shows ∙ get_or_default _ i d _ l) ∙ c.roads.ensures.each i (omega arith)) e) in
+    road_keyed b i _ _ k c.place_count-places.ensures (ap road_in (q.shows ∙ get_or_default _ i d _ l) ∙ c.roads.ensures.each i (omega arith)) e) in
     falls_at (roads_keyed b) (λ r. WrongRoad (record { 0 = r })) c.in-Some.r (rw n at f)
 
 pub returns-in-None : goal.returns-in-None
@@ -22,5 +22,5 @@ returns-in-None c =
     let n = c.roads.ensures.count in
     let f = c.in-None.ensures.falls (road_key_of b) (λ i d k l q.
     let e : k ≡ key_if (within_limits c.place_count-places.result (road_in q.shown.now)) (by_start (road_in q.shown.now)) = search rules in
-    road_keyed b i _ _ k c.place_count-places.ensures.count (ap road_in (q.shows ∙ get_or_default _ i d _ l) ∙ c.roads.ensures.each i (omega arith)) e) in
+    road_keyed b i _ _ k c.place_count-places.ensures (ap road_in (q.shows ∙ get_or_default _ i d _ l) ∙ c.roads.ensures.each i (omega arith)) e) in
     never_falls (roads_keyed b) (λ r. WrongRoad (record { 0 = r })) (rw n at f)
