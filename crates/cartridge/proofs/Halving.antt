@@ -1,34 +1,41 @@
--- The keys of both lists do not fall.
-use Rattle.std.proofs.Common.{ℕ, ◌+◌, ◌*◌, ◌<◌, ◌≤◌, List, length, arith}
-use Rattle.format.specs.Bytes.{places, roads, roads_at, arrivals_at}
-use Rattle.format.specs.Reading.{road_of, arriving}
-use Rattle.format.proofs.Accepted.{Facts, roads_rise, arrivals_rise}
-use Rattle.format.proofs.Rising.{climbing}
-use Rattle.cartridge.specs.declared.listings.Direction.{Direction}
-use Rattle.cartridge.specs.declared.listings.Direction.TheVariants.{Outward, Inward}
-use Rattle.cartridge.specs.Listings.{key_of}
+-- Where the entries at a place begin, by halving.
+use Rattle.std.proofs.Common.{◌≡◌, ℕ, ◌<◌, ◌≤◌, Bool, true, false, ltb, List, [], ◌∷◌, length, get_or, Some, None, Option, MatchOption, ◌⊎◌, eqb, ◌∙◌, sym, refl, inl, inr, arith}
+use Rattle.std.specs.Bool.{then_some}
+use Rattle.std.specs.Option.{option_eq}
+use Rattle.std.specs.List.Sorted.{IsPartitionedBy, IsPartitionPoint}
+use Rattle.std.proofs.lemmas.Bool.{ltb-true, ltb-false, lt-ltb, cases_eq, eq-eqb, ne_eqb}
+use Rattle.cartridge.specs.Listings.{Climbs, Begins}
 
-module _ (b : List ℕ) (f : Facts b) where
-  pub keys_climb : (d : Direction) (i j : ℕ) → i ≤ j → j < roads b → key_of b d i ≤ key_of b d j
-  keys_climb Outward i j l u = climbing (λ r. (road_of b r).start.0) (λ r. (road_of b r).end.0) (roads b) (roads_rise b f) i j l u
-  keys_climb Inward i j l u = climbing (λ i. (arriving b i).end.0) (λ i. (arriving b i).start.0) (roads b) (arrivals_rise b f) i j l u
+-- an entry is below a place, as `<` compares
+abbrev pub lies_below : Option ℕ → ℕ → Bool
+lies_below None p = true
+lies_below (Some a) p = ltb a p
 
-  -- the records are there
-  pub road_there : (r : ℕ) → r < roads b → roads_at b + 8 * r + 8 ≤ length b
-  road_there r l = let h = f.long in omega arith
+some_of : {T : Type 0} (ys : List T) (i : ℕ) → i < length ys → T
+some_of [] i l = absurd (omega arith)
+some_of (y ∷ ys) i l = y
 
-  pub arrival_there : (i : ℕ) → i < roads b → arrivals_at b + 2 * i + 2 ≤ length b
-  arrival_there i l = let h = f.long in omega arith
+module _ {T : Type 0} (xs : List T) (k : T → Option ℕ) (key : ℕ → ℕ) (p : ℕ) (keyed : (i : ℕ) (d : T) → i < length xs → k (get_or xs i d) ≡ Some (key i)) where
+  at : (i : ℕ) (d : T) → i < length xs → lies_below (k (get_or xs i d)) p ≡ ltb (key i) p
+  at i d l = rw (keyed i d l)
 
-  pub header_there : 8 ≤ length b
-  header_there = let h = f.long in omega arith
+  pub parted : Climbs key (length xs) → IsPartitionedBy (λ y. lies_below (k y) p) xs
+  parted c = λ i j d l u t.
+      let m = ltb-true (key j) p (sym (at j d u) ∙ t) in
+      let n = c i j l u in
+      at i d (omega arith) ∙ lt-ltb (key i) p (omega arith)
 
-  pub district_there : (p : ℕ) → p < places b → 11 + p < length b
-  district_there p l = let h = f.long in omega arith
+  pub begins : (first : ℕ) → first ≤ length xs → IsPartitionPoint (λ y. lies_below (k y) p ≡ true) (λ y. lies_below (k y) p ≡ false) xs first → Begins key (length xs) p first
+  begins first w h = record {
+    within = w;
+    below = λ i l. let d = some_of xs i (omega arith) in ltb-true (key i) p (sym (at i d (omega arith)) ∙ h.0 i d (omega arith) l);
+    from = λ i l u. let d = some_of xs i u in ltb-false (key i) p (sym (at i d u) ∙ h.1 i d l u);
+  }
 
-  -- halving: the middle entry tells of all below it, or of all above it
-  pub below_middle : (d : Direction) (p m : ℕ) → m < roads b → key_of b d m < p → (i : ℕ) → i < m + 1 → key_of b d i < p
-  below_middle d p m l k i u = let c = keys_climb d i m (omega arith) l in omega arith
-
-  pub above_middle : (d : Direction) (p m : ℕ) → p ≤ key_of b d m → (i : ℕ) → m ≤ i → i < roads b → p ≤ key_of b d i
-  above_middle d p m k i u l = let c = keys_climb d m i u l in omega arith
+-- the entry at i is the one asked for, or no more are at the place p
+pub asked : (key : ℕ → ℕ) (n p i : ℕ) (o r : Option ℕ) (t : Bool) → i < n → o ≡ Some (key i) → t ≡ option_eq eqb o (Some p) → r ≡ then_some t i →
+    MatchOption r ((n ≤ i) ⊎ (key i ≡ p → ⊥)) (λ k. (k ≡ i) × (k < n) × (key k ≡ p))
+asked key n p i o r t l e f h = elim (cases_eq (key i) p) [
+  | inl s ↦ let u : t ≡ true = f ∙ rw e (eq-eqb (key i) p s) in rw (h, u) (refl, l, s)
+  | inr s ↦ let u : t ≡ false = f ∙ rw e (ne_eqb (key i) p s) in rw (h, u) (inr s)
+]

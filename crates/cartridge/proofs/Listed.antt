@@ -1,74 +1,83 @@
--- The entries of a place, from the first on, are what the place lists.
-use Rattle.std.proofs.Common.{◌≡◌, ℕ, ◌+◌, ◌-◌, ◌<◌, ◌≤◌, ◌⊎◌, List, length, get_or, Some, None, ap, ◌∙◌, inl, inr, arith}
-use Rattle.std.proofs.lemmas.List.{get_or-map, length-map}
-use Rattle.std.proofs.lemmas.Bool.{lt-ltb, le-ltb, ne_eqb}
+-- The entries at a place, from where they begin, are what the place lists.
+use Rattle.std.proofs.Common.{◌≡◌, ℕ, ◌+◌, ◌-◌, ◌<◌, ◌≤◌, ◌⊎◌, List, length, get_or, map, cond, nat_lt, IfSome, Some, None, Option, ap, sym, subst, ◌∙◌, inl, inr, arith}
+use Rattle.std.specs.Option.{option_map}
+use Rattle.std.proofs.lemmas.List.{get_or-map, length-map, map-id}
+use Rattle.std.proofs.lemmas.Bool.{cases_lt, lt-ltb, le-ltb, ne_eqb}
+use Rattle.map.specs.declared.numbers.RoadId.{RoadId}
 use Rattle.map.specs.Model.{listed_at}
 use Rattle.format.specs.Bytes.{places, roads}
 use Rattle.format.specs.Picks.{picked}
-use Rattle.format.specs.Reading.{arrival_of}
-use Rattle.format.proofs.Picks.{Climbs, keyed, picked_skip, run_in, run_out}
-use Rattle.format.proofs.Accepted.{Facts}
-use Rattle.cartridge.specs.declared.listings.Direction.{Direction}
-use Rattle.cartridge.specs.declared.listings.Direction.TheVariants.{Outward, Inward}
-use Rattle.cartridge.specs.Listings.{entry_of, key_of, listing}
-use Rattle.cartridge.proofs.Halving.{keys_climb}
+use Rattle.format.specs.Reading.{road_of, arrival_of, arriving, map_in}
+use Rattle.format.proofs.Accepted.{Facts, roads_rise, arrivals_rise, road_limits, arrival_known}
+use Rattle.format.proofs.Picks.{Climbs as ClimbsFrom, keyed, picked_skip, run_in, run_out}
+use Rattle.format.proofs.Rising.{climbing}
+use Rattle.cartridge.specs.Listings.{Climbs, Begins, NthOf}
 
--- the entries below `first` have lesser keys than p, and the others do not
-pub record Found (b : List ℕ) (d : Direction) (p first : ℕ) : Type 0 where
-  pub within : first ≤ roads b
-  pub below : (i : ℕ) → i < first → key_of b d i < p
-  pub from : (i : ℕ) → first ≤ i → i < roads b → p ≤ key_of b d i
-
-module _ (b : List ℕ) (f : Facts b) (d : Direction) (p first : ℕ) (h : Found b d p first) where
-  -- the indices of the place's entries
-  indices : List ℕ
-  indices = picked (keyed (key_of b d) p) 0 (roads b)
-
-  run : picked (keyed (key_of b d) p) 0 (roads b) ≡ picked (keyed (key_of b d) p) first (roads b - first)
-  run = let w = h.within in let e : first + (roads b - first) ≡ roads b = omega arith in
+module _ (key : ℕ → ℕ) (n p first : ℕ) (c : Climbs key n) (h : Begins key n p first) where
+  run : picked (keyed key p) 0 n ≡ picked (keyed key p) first (n - first)
+  run = let w = h.within in let e : first + (n - first) ≡ n = omega arith in
       let z : 0 + first ≡ first = omega arith in
-      let s = picked_skip (keyed (key_of b d) p) first 0 (roads b - first) (λ i l u. let k = h.below i (omega arith) in ne_eqb (key_of b d i) p (λ q. omega arith)) in
+      let s = picked_skip (keyed key p) first 0 (n - first) (λ i l u. let k = h.below i (omega arith) in ne_eqb (key i) p (λ q. omega arith)) in
       rw (e, z) at s
 
-  climbs : Climbs (key_of b d) p first (roads b - first)
+  climbs : ClimbsFrom key p first (n - first)
   climbs = let w = h.within in record {
     least = λ i k. let l = k.from in let u = k.below in h.from i l (omega arith);
-    climbs = λ i j k l m. let u = m.below in keys_climb b f d i j l (omega arith);
+    climbs = λ i j k l m. let u = m.below in c i j l (omega arith);
   }
 
-  pub index_in : (j : ℕ) → first + j < roads b → key_of b d (first + j) ≡ p →
-      (j < length (picked (keyed (key_of b d) p) 0 (roads b))) × (get_or (picked (keyed (key_of b d) p) 0 (roads b)) j 0 ≡ first + j)
-  index_in j l e = rw run (run_in (key_of b d) p first (roads b - first) j climbs (omega arith) e)
+  index_in : (j : ℕ) → first + j < n → key (first + j) ≡ p → (j < length (picked (keyed key p) 0 n)) × (get_or (picked (keyed key p) 0 n) j 0 ≡ first + j)
+  index_in j l e = rw run (run_in key p first (n - first) j climbs (omega arith) e)
 
-  pub index_out : (j : ℕ) → (roads b ≤ first + j) ⊎ (key_of b d (first + j) ≡ p → ⊥) → length (picked (keyed (key_of b d) p) 0 (roads b)) ≤ j
-  index_out j o = rw run (run_out (key_of b d) p first (roads b - first) j climbs (past o))
+  index_out : (j : ℕ) → (n ≤ first + j) ⊎ (key (first + j) ≡ p → ⊥) → length (picked (keyed key p) 0 n) ≤ j
+  index_out j o = rw run (run_out key p first (n - first) j climbs (past o))
     where
-      past : (roads b ≤ first + j) ⊎ (key_of b d (first + j) ≡ p → ⊥) → (roads b - first ≤ j) ⊎ (key_of b d (first + j) ≡ p → ⊥)
+      past : (n ≤ first + j) ⊎ (key (first + j) ≡ p → ⊥) → (n - first ≤ j) ⊎ (key (first + j) ≡ p → ⊥)
       past (inl l) = inl (omega arith)
       past (inr k) = inr k
 
--- what a place lists has an entry for each index
-listing_in : (b : List ℕ) (d : Direction) (p i j : ℕ) → (j < length (picked (keyed (key_of b d) p) 0 (roads b))) × (get_or (picked (keyed (key_of b d) p) 0 (roads b)) j 0 ≡ i) →
-    (j < length (listing b d p)) × (get_or (listing b d p) j 0 ≡ entry_of b d i)
-listing_in b Outward p i j h = h
-listing_in b Inward p i j h = let l = h.0 in
-    (rw length-map l, get_or-map (arrival_of b) _ j 0 0 l ∙ ap (arrival_of b) h.1)
+-- each place lists the entries at it, and none is at a place past the last
+module _ (key entry : ℕ → ℕ) (n places : ℕ) (c : Climbs key n) (small : (i : ℕ) → i < n → key i < places) (p j : ℕ) where
+  list : ℕ → List ℕ
+  list q = map entry (picked (keyed key q) 0 n)
 
-listing_out : (b : List ℕ) (d : Direction) (p j : ℕ) → length (picked (keyed (key_of b d) p) 0 (roads b)) ≤ j → length (listing b d p) ≤ j
-listing_out b Outward p j h = h
-listing_out b Inward p j h = rw length-map h
+  pub answers : (r : Option ℕ) → NthOf key n p j r → option_map (λ i. let x : RoadId = record { 0 = entry i } in x) r ≡ listed_at places (λ q. map entry (picked (keyed key q) 0 n)) p j
+  answers None h = elim (cases_lt p places) [
+    | inl l ↦ let k : length (map entry (picked (keyed key p) 0 n)) ≤ j = rw length-map (index_out key n p h.0 c h.1 j h.2) in
+        rw (lt-ltb p places l, le-ltb j (length (map entry (picked (keyed key p) 0 n))) k)
+    | inr l ↦ rw (le-ltb p places l)
+  ]
+  answers (Some i) h =
+      let e = h.2.0 in let l = h.2.1 in let k = h.2.2 in
+      let m : key (h.0 + j) ≡ p = ap key (sym e) ∙ k in
+      let x = index_in key n p h.0 c h.1 j (omega arith) m in
+      let q : p < places = subst (λ v. v < places) k (small i l) in
+      let y : j < length (map entry (picked (keyed key p) 0 n)) = rw length-map x.0 in
+      let z : get_or (map entry (picked (keyed key p) 0 n)) j 0 ≡ entry i = get_or-map entry _ j 0 0 x.0 ∙ ap entry (x.1 ∙ sym e) in
+      rw (lt-ltb p places q, lt-ltb j (length (map entry (picked (keyed key p) 0 n))) y, z)
 
-module _ (b : List ℕ) (f : Facts b) (d : Direction) (p first : ℕ) (h : Found b d p first) (known : p < places b) where
-  pub lists : (j r : ℕ) → first + j < roads b → key_of b d (first + j) ≡ p → r ≡ entry_of b d (first + j) →
-      Some (record { 0 = r }) ≡ listed_at (places b) (listing b d) p j
-  lists j r l e s =
-      let k = listing_in b d p (first + j) j (index_in b f d p first h j l e) in
-      rw (lt-ltb p (places b) known, lt-ltb j (length (listing b d p)) k.0, s, k.1)
+module _ (b : List ℕ) (f : Facts b) where
+  pub starts_climb : Climbs (λ r. (road_of b r).start.0) (roads b)
+  starts_climb i j l u = climbing (λ r. (road_of b r).start.0) (λ r. (road_of b r).end.0) (roads b) (roads_rise b f) i j l u
 
-  pub lists_no_more : (j : ℕ) → (roads b ≤ first + j) ⊎ (key_of b d (first + j) ≡ p → ⊥) → None ≡ listed_at (places b) (listing b d) p j
-  lists_no_more j o =
-      let k = listing_out b d p j (index_out b f d p first h j o) in
-      rw (lt-ltb p (places b) known, le-ltb j (length (listing b d p)) k)
+  pub ends_climb : Climbs (λ i. (arriving b i).end.0) (roads b)
+  ends_climb i j l u = climbing (λ i. (arriving b i).end.0) (λ i. (arriving b i).start.0) (roads b) (arrivals_rise b f) i j l u
 
-pub no_place : (b : List ℕ) (d : Direction) (p j : ℕ) → places b ≤ p → None ≡ listed_at (places b) (listing b d) p j
-no_place b d p j h = rw (le-ltb p (places b) h)
+  pub departs : (p j : ℕ) (r : Option ℕ) → NthOf (λ r. (road_of b r).start.0) (roads b) p j r →
+      option_map (λ r. let x : RoadId = record { 0 = r } in x) r ≡ listed_at (places b) (map_in b).departures p j
+  departs p j r h = simp map-id at (answers (λ r. (road_of b r).start.0) (λ r. r) (roads b) (places b) starts_climb (λ r l. (road_limits b f r l).start_known) p j r h)
+
+  pub arrives : (p j : ℕ) (r : Option ℕ) → NthOf (λ i. (arriving b i).end.0) (roads b) p j r →
+      option_map (λ i. let x : RoadId = record { 0 = arrival_of b i } in x) r ≡ listed_at (places b) (map_in b).arrivals p j
+  arrives p j r h = answers (λ i. (arriving b i).end.0) (arrival_of b) (roads b) (places b) ends_climb
+      (λ i l. (road_limits b f (arrival_of b i) (arrival_known b f i l)).end_known) p j r h
+
+-- the place at which the road r ends, if there is one
+abbrev pub end_known : List ℕ → ℕ → Option ℕ
+end_known b r = cond (nat_lt r (roads b)) (Some (road_of b r).end.0) None
+
+-- numbers that are read from entries
+pub numbered : (o : Option ℕ) (r : Option RoadId) (n : ℕ) (f e : ℕ → ℕ) → IfSome o (λ i. i < n) → ((i : ℕ) → i < n → f i ≡ e i) →
+    r ≡ option_map (λ i. let x : RoadId = record { 0 = f i } in x) o → r ≡ option_map (λ i. let x : RoadId = record { 0 = e i } in x) o
+numbered None r n f e l h m = m
+numbered (Some i) r n f e l h m = m ∙ ap (λ v. let x : RoadId = record { 0 = v } in Some x) (h i l)

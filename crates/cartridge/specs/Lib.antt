@@ -1,2 +1,4 @@
 pub mod Listings
+pub mod Orders
 pub mod Reads
+pub mod Records

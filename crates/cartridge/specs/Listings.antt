@@ -1,20 +1,18 @@
--- The two sorted lists of a cartridge: its roads, which rise by their starts, and its arrivals, which rise by their ends.
-use Rattle.std.specs.Prelude.{ℕ, List}
-use Rattle.format.specs.Reading.{road_of, arrival_of, arriving, map_in}
-use Rattle.cartridge.specs.declared.listings.Direction.{Direction}
-use Rattle.cartridge.specs.declared.listings.Direction.TheVariants.{Outward, Inward}
+-- Entries that are sorted by their places, of which the j-th at a place is asked.
+use Rattle.std.specs.Prelude.{◌≡◌, ℕ, ◌+◌, ◌<◌, ◌≤◌, ◌⊎◌, Option, MatchOption}
 
--- The road number at the i-th entry.
-abbrev pub entry_of : List ℕ → Direction → ℕ → ℕ
-entry_of b Outward i = i
-entry_of b Inward i = arrival_of b i
+-- The places of the n entries do not fall.
+abbrev pub Climbs : (ℕ → ℕ) → ℕ → Type 0
+Climbs key n = (i j : ℕ) → i ≤ j → j < n → key i ≤ key j
 
--- The place by which the i-th entry is sorted.
-abbrev pub key_of : List ℕ → Direction → ℕ → ℕ
-key_of b Outward i = (road_of b i).start.0
-key_of b Inward i = (arriving b i).end.0
+-- The entries at the place p begin at `first`: those below are at lesser places, and the others are not.
+pub record Begins (key : ℕ → ℕ) (n p first : ℕ) : Type 0 where
+  pub within : first ≤ n
+  pub below : (i : ℕ) → i < first → key i < p
+  pub from : (i : ℕ) → first ≤ i → i < n → p ≤ key i
 
--- The road numbers that a place lists: departures, or arrivals.
-abbrev pub listing : List ℕ → Direction → ℕ → List ℕ
-listing b Outward = (map_in b).departures
-listing b Inward = (map_in b).arrivals
+-- The j-th entry at the place p is the j-th from where they begin, absent where that is past the last or at another place.
+abbrev pub NthOf : (ℕ → ℕ) → ℕ → ℕ → ℕ → Option ℕ → Type 0
+NthOf key n p j r = (first : ℕ) × Begins key n p first × MatchOption r
+    ((n ≤ first + j) ⊎ (key (first + j) ≡ p → ⊥))
+    (λ i. (i ≡ first + j) × (i < n) × (key i ≡ p))

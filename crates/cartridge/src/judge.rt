@@ -1,11 +1,12 @@
 //! Whether bytes are a cartridge, and if not, what is wrong with them first.
-ghost use Rattle.std.specs.Prelude.{◌≡◌, ℕ, ◌+◌, ◌*◌, ◌<◌, ◌≤◌, ◌&&◌, length};
-ghost use Rattle.format.specs.Bytes.{whole, roads};
-ghost use Rattle.format.specs.Reading.{verdict, field, fields, counts, known_districts, inhabited_districts, has_place, within_limits, before, rises_by_start, rises_by_end, right_roads, right_arrivals, judged};
+ghost use Rattle.std.specs.Prelude.{◌≡◌, ℕ, ◌+◌, ◌*◌, ◌<◌, ◌≤◌, ◌&&◌, length, nat_lt, Some, None, MatchResult};
+ghost use Rattle.format.specs.Bytes.{number, whole, roads};
+ghost use Rattle.format.specs.Reading.{verdict, field, fields, counts, known_districts, inhabited_districts, has_place, within_limits, road_of, right_roads, right_arrivals, contents, judged};
+ghost use Rattle.cartridge.specs.Orders.{key_if, by_start, by_end};
+ghost use Rattle.cartridge.specs.Records.{road_in};
 
-use crate::bytes::{
-    arrival_at, district_at, district_count, place_count, road_at, road_count, two_bytes,
-};
+use crate::fields::{Fields, arrival_in, number_at, place_count, road_count, road_in};
+use crate::orders::first_fall;
 use format::Refusal;
 use fringe::Place;
 use map::{District, Road, RoadId};
@@ -31,7 +32,7 @@ fn walk_field(bytes: &[u8], offset: usize, tag: u8, size: usize) -> Result<usize
     if bytes[offset] != tag {
         return Err(Refusal::WrongTag(offset));
     }
-    if usize::from(two_bytes(bytes, offset + 1)) != size {
+    if usize::from(number_at(bytes, offset + 1)) != size {
         return Err(Refusal::WrongLength(offset));
     }
     if left - 3 < size {
@@ -41,173 +42,134 @@ fn walk_field(bytes: &[u8], offset: usize, tag: u8, size: usize) -> Result<usize
 }
 
 /// Walks all fields, each once and in order, with nothing after them.
-fn walk(bytes: &[u8]) -> Result<(), Refusal>
-    ensures { result ≡ verdict (fields bytes.now) tt }
+fn walk(bytes: &[u8]) -> Result<Fields<'_>, Refusal>
+    ensures { MatchResult result (λ f. (fields bytes.now ≡ None) × (f.bytes.now ≡ bytes.now)) (λ e. fields bytes.now ≡ Some e) }
 {
-    let offset = walk_field(bytes, 0, Tag::Counts as u8, 5)?;
-    let places = place_count(bytes);
-    let roads = road_count(bytes);
-    let offset = walk_field(bytes, offset, Tag::Districts as u8, places)?;
-    let offset = walk_field(bytes, offset, Tag::Roads as u8, 8 * roads)?;
-    let offset = walk_field(bytes, offset, Tag::Arrivals as u8, 2 * roads)?;
-    let offset = walk_field(bytes, offset, Tag::End as u8, 0)?;
+    let mut offset = walk_field(bytes, 0, Tag::Counts as u8, 5)?;
+    let places = usize::from(place_count(bytes));
+    let roads = usize::from(road_count(bytes));
+    let sizes = [
+        (Tag::Districts as u8, places),
+        (Tag::Roads as u8, 8 * roads),
+        (Tag::Arrivals as u8, 2 * roads),
+        (Tag::End as u8, 0),
+    ];
+    for (tag, size) in sizes {
+        offset = walk_field(bytes, offset, tag, size)?;
+    }
     if offset < bytes.len() {
         return Err(Refusal::WrongTag(offset));
     }
-    Ok(())
-}
-
-/// Judges the three counts.
-fn check_counts(bytes: &[u8]) -> Result<(), Refusal>
-    requires { whole bytes.now ≤ length bytes.now }
-    ensures { result ≡ verdict (counts bytes.now) tt }
-{
-    let places = place_count(bytes);
-    let districts = district_count(bytes);
-    if places >= 1
-        && places <= 1024
-        && districts >= 1
-        && districts <= 64
-        && road_count(bytes) <= 4096
-    {
-        Ok(())
-    } else {
-        Err(Refusal::WrongCount(0))
-    }
-}
-
-/// Judges each place's district.
-fn check_districts(bytes: &[u8]) -> Result<(), Refusal>
-    requires { whole bytes.now ≤ length bytes.now }
-    ensures { result ≡ verdict (known_districts bytes.now) tt }
-{
-    let districts = district_count(bytes);
-    for p in 0..place_count(bytes) {
-        if usize::from(district_at(bytes, p)) >= districts {
-            return Err(Refusal::NoSuchDistrict(Place(p as u16)));
-        }
-    }
-    Ok(())
-}
-
-/// Judges whether each district has a place.
-fn check_inhabited(bytes: &[u8]) -> Result<(), Refusal>
-    requires { whole bytes.now ≤ length bytes.now }
-    ensures { result ≡ verdict (inhabited_districts bytes.now) tt }
-{
-    for d in 0..district_count(bytes) {
-        if !has_place(bytes, d as u8) {
-            return Err(Refusal::EmptyDistrict(District(d as u8)));
-        }
-    }
-    Ok(())
-}
-
-/// Whether some place is in the district.
-fn has_place(bytes: &[u8], district: u8) -> bool
-    requires { whole bytes.now ≤ length bytes.now }
-    ensures { result ≡ has_place bytes.now district }
-{
-    for p in 0..place_count(bytes) {
-        if district_at(bytes, p) == district {
-            return true;
-        }
-    }
-    false
+    Ok(Fields { bytes })
 }
 
 /// Whether a road keeps the limits of a map with so many places.
-fn keeps_limits(road: Road, places: usize) -> bool
+fn keeps_limits(road: Road, places: u16) -> bool
     ensures { result ≡ within_limits places road }
 {
-    usize::from(road.start.0) < places
-        && usize::from(road.end.0) < places
-        && road.start.0 != road.end.0
+    road.start.0 < places
+        && road.end.0 < places
+        && road.start != road.end
         && road.seconds <= 60000
         && road.steepness <= 1000
 }
 
-/// Whether the pair (a, b) comes before the pair (c, d).
-fn comes_before(a: Place, b: Place, c: Place, d: Place) -> bool
-    ensures { result ≡ before a.0 b.0 c.0 d.0 }
+/// By what a road rises: its start and then its end. One that breaks a limit has none.
+fn road_key(entry: &[u8; 8], places: u16) -> Option<(u16, u16)>
+    ensures { result ≡ key_if (within_limits places (road_in entry.now)) (by_start (road_in entry.now)) }
 {
-    a.0 < c.0 || (a.0 == c.0 && b.0 < d.0)
+    let road = road_in(entry);
+    keeps_limits(road, places).then_some((road.start.0, road.end.0))
 }
 
-/// Whether a road rises above the one before it by start, then end.
-fn rises(last: Option<Road>, road: Road) -> bool
-    ensures { result ≡ rises_by_start last road }
-{
-    match last {
-        Some(below) => comes_before(below.start, below.end, road.start, road.end),
-        None => true,
+impl Fields<'_> {
+    /// By what an arrival rises: its road's end and then its start. One that is no road's number has none.
+    fn arrival_key(&self, entry: &[u8; 2]) -> Option<(u16, u16)>
+        ensures { let r = number entry.now 0 in result ≡ key_if (nat_lt r (roads self.now.bytes.now)) (by_end (road_of self.now.bytes.now r)) }
+    {
+        let road = self.road(arrival_in(entry))?;
+        Some((road.end.0, road.start.0))
     }
-}
 
-/// Whether a road may stand behind the one before it on a map with so many places.
-fn may_follow(last: Option<Road>, road: Road, places: usize) -> bool
-    ensures { result ≡ (within_limits places road && rises_by_start last road) }
-{
-    keeps_limits(road, places) && rises(last, road)
-}
-
-/// Whether a road rises above the one before it by end, then start.
-fn arrives_later(last: Option<Road>, road: Road) -> bool
-    ensures { result ≡ rises_by_end last road }
-{
-    match last {
-        Some(below) => comes_before(below.end, below.start, road.end, road.start),
-        None => true,
-    }
-}
-
-/// Judges each road.
-fn check_roads(bytes: &[u8]) -> Result<(), Refusal>
-    requires there { whole bytes.now ≤ length bytes.now }
-    requires few { roads bytes.now ≤ 4096 }
-    ensures { result ≡ verdict (right_roads bytes.now) tt }
-{
-    let places = place_count(bytes);
-    let mut last: Option<Road> = None;
-    for r in 0..road_count(bytes) {
-        let road = road_at(bytes, r);
-        if !may_follow(last, road, places) {
-            return Err(Refusal::WrongRoad(RoadId(r as u16)));
+    /// Judges the three counts.
+    fn check_counts(&self) -> Result<(), Refusal>
+        ensures { result ≡ verdict (counts self.now.bytes.now) tt }
+    {
+        let counted = (1..=1024).contains(&self.place_count())
+            && (1..=64).contains(&self.district_count())
+            && self.road_count() <= 4096;
+        if counted {
+            Ok(())
+        } else {
+            Err(Refusal::WrongCount(0))
         }
-        last = Some(road);
     }
-    Ok(())
-}
 
-/// Judges each arrival. The record of its road is read once.
-fn check_arrivals(bytes: &[u8]) -> Result<(), Refusal>
-    requires { whole bytes.now ≤ length bytes.now }
-    ensures { result ≡ verdict (right_arrivals bytes.now) tt }
-{
-    let roads = road_count(bytes);
-    let mut last: Option<Road> = None;
-    for i in 0..roads {
-        let number = usize::from(arrival_at(bytes, i));
-        if number >= roads {
-            return Err(Refusal::WrongArrival(i));
+    /// Judges each place's district.
+    fn check_districts(&self) -> Result<(), Refusal>
+        ensures { result ≡ verdict (known_districts self.now.bytes.now) tt }
+    {
+        let count = self.district_count();
+        match self.districts().iter().position(|d| *d >= count) {
+            Some(p) => Err(Refusal::NoSuchDistrict(Place(p as u16))),
+            None => Ok(()),
         }
-        let road = road_at(bytes, number);
-        if !arrives_later(last, road) {
-            return Err(Refusal::WrongArrival(i));
-        }
-        last = Some(road);
     }
-    Ok(())
+
+    /// Judges whether each district has a place.
+    fn check_inhabited(&self) -> Result<(), Refusal>
+        ensures { result ≡ verdict (inhabited_districts self.now.bytes.now) tt }
+    {
+        match (0..self.district_count()).find(|d| !self.has_place(*d)) {
+            Some(d) => Err(Refusal::EmptyDistrict(District(d))),
+            None => Ok(()),
+        }
+    }
+
+    /// Whether some place is in the district.
+    fn has_place(&self, district: u8) -> bool
+        ensures { result ≡ has_place self.now.bytes.now district }
+    {
+        self.districts().contains(&district)
+    }
+
+    /// Judges each road: it keeps the limits, and rises above the one before it by start, then end.
+    fn check_roads(&self) -> Result<(), Refusal>
+        ensures { result ≡ verdict (right_roads self.now.bytes.now) tt }
+    {
+        let places = self.place_count();
+        let fall = first_fall(self.roads(), |entry| road_key(entry, places));
+        match fall {
+            Some(r) => Err(Refusal::WrongRoad(RoadId(r as u16))),
+            None => Ok(()),
+        }
+    }
+
+    /// Judges each arrival: it is a road's number, and the road rises above the one before it by end, then start.
+    fn check_arrivals(&self) -> Result<(), Refusal>
+        ensures { result ≡ verdict (right_arrivals self.now.bytes.now) tt }
+    {
+        let fall = first_fall(self.arrivals(), |entry| self.arrival_key(entry));
+        match fall {
+            Some(i) => Err(Refusal::WrongArrival(i)),
+            None => Ok(()),
+        }
+    }
+    /// Judges the contents, each over its whole field.
+    fn check_contents(&self) -> Result<(), Refusal>
+        ensures { result ≡ verdict (contents self.now.bytes.now) tt }
+    {
+        self.check_counts()?;
+        self.check_districts()?;
+        self.check_inhabited()?;
+        self.check_roads()?;
+        self.check_arrivals()
+    }
 }
 
 /// Judges the bytes: the fields first, then their contents.
 pub(crate) fn judge(bytes: &[u8]) -> Result<(), Refusal>
     ensures { result ≡ verdict (judged bytes.now) tt }
 {
-    walk(bytes)?;
-    check_counts(bytes)?;
-    check_districts(bytes)?;
-    check_inhabited(bytes)?;
-    check_roads(bytes)?;
-    check_arrivals(bytes)
+    walk(bytes)?.check_contents()
 }

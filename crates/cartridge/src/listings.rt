@@ -1,83 +1,64 @@
-//! Departures and arrivals, found by halving in the sorted lists of a cartridge.
-ghost use Rattle.std.specs.Prelude.{◌≡◌, ℕ, ◌<◌, ◌≤◌, true};
+//! What a place lists, found by halving in entries that are sorted by their places.
+ghost use Rattle.std.specs.Prelude.{◌≡◌, ℕ, ◌<◌, ◌≤◌, length, slice_index_or, Some, Option, IfSome};
+ghost use Rattle.std.specs.Fn.{FnReturnsAt};
 ghost use Rattle.map.specs.Model.{listed_at};
-ghost use Rattle.format.specs.Bytes.{places, roads};
-ghost use Rattle.format.specs.Reading.{accepts};
-ghost use Rattle.cartridge.specs.Listings.{entry_of, key_of, listing};
+ghost use Rattle.format.specs.Bytes.{places};
+ghost use Rattle.format.specs.Reading.{map_in};
+ghost use Rattle.cartridge.specs.Listings.{Begins, Climbs, NthOf};
 
-use crate::bytes::{arrival_at, place_count, road_at, road_count};
+use crate::cartridges::Cartridge;
+use crate::fields::{arrival_in, road_in};
 use fringe::Place;
 use map::RoadId;
 
-/// Which end of a road a list is sorted by.
-#[derive(Clone, Copy)]
-pub(crate) enum Direction {
-    /// Roads by their starts.
-    Outward,
-    /// Arrivals by their ends.
-    Inward,
+/// Where the entries at a place begin, or would. An entry is at the place that `place_of` gives.
+fn first_at<T, F: Fn(&T) -> Option<u16>>(entries: &[T], place_of: &F, place: u16) -> usize
+    requires { F.IsAlwaysCallable place_of.now }
+    ensures within { result ≤ length entries.now }
+    ensures begins { (k : T → Option ℕ) (key : ℕ → ℕ)
+        → ((x : T) (p : Option ℕ) → FnReturnsAt F.Fn place_of.now x p → p ≡ k x)
+        → ((i : ℕ) (d : T) → i < length entries.now → k (slice_index_or entries.now i d) ≡ Some (key i))
+        → Climbs key (length entries.now)
+        → Begins key (length entries.now) place result }
+{
+    entries.partition_point(|entry| place_of(entry) < Some(place))
 }
 
-/// The road number at an entry.
-fn entry(bytes: &[u8], direction: Direction, i: usize) -> u16
-    requires accepted { accepts bytes.now ≡ true }
-    requires within { i < roads bytes.now }
-    ensures value { result ≡ entry_of bytes.now direction i }
-    ensures known { result < roads bytes.now }
+/// The index of the j-th of the entries at a place.
+pub(crate) fn nth_at<T, F: Fn(&T) -> Option<u16>>(
+    entries: &[T],
+    place_of: F,
+    place: u16,
+    j: usize,
+) -> Option<usize>
+    requires { F.IsAlwaysCallable place_of }
+    ensures within { IfSome result (λ i. i < length entries.now) }
+    ensures nth { (k : T → Option ℕ) (key : ℕ → ℕ)
+        → ((x : T) (p : Option ℕ) → FnReturnsAt F.Fn place_of x p → p ≡ k x)
+        → ((i : ℕ) (d : T) → i < length entries.now → k (slice_index_or entries.now i d) ≡ Some (key i))
+        → Climbs key (length entries.now)
+        → NthOf key (length entries.now) place j result }
 {
-    match direction {
-        Direction::Outward => i as u16,
-        Direction::Inward => arrival_at(bytes, i),
-    }
+    let first = first_at(entries, &place_of, place);
+    let entry = entries[first..].get(j)?;
+    (place_of(entry) == Some(place)).then_some(first + j)
 }
 
-/// The place by which an entry is sorted.
-fn key(bytes: &[u8], direction: Direction, i: usize) -> u16
-    requires accepted { accepts bytes.now ≡ true }
-    requires within { i < roads bytes.now }
-    ensures { result ≡ key_of bytes.now direction i }
-{
-    let road = road_at(bytes, usize::from(entry(bytes, direction, i)));
-    match direction {
-        Direction::Outward => road.start.0,
-        Direction::Inward => road.end.0,
+impl Cartridge<'_> {
+    /// The j-th road that leaves a place: the records of roads are sorted by their starts.
+    pub(crate) fn nth_departure(&self, place: Place, j: usize) -> Option<RoadId>
+        ensures { let b = self.now.bytes.now in result ≡ listed_at (places b) (map_in b).departures place.0 j }
+    {
+        let roads = self.fields().roads();
+        nth_at(roads, |entry| Some(road_in(entry).start.0), place.0, j).map(|r| RoadId(r as u16))
     }
-}
 
-/// How many entries are sorted below a place: where its own begin.
-fn first_entry(bytes: &[u8], direction: Direction, place: u16) -> usize
-    requires { accepts bytes.now ≡ true }
-    ensures within { result ≤ roads bytes.now }
-    ensures below { (i : ℕ) → i < result → key_of bytes.now direction i < place }
-    ensures from { (i : ℕ) → result ≤ i → i < roads bytes.now → place ≤ key_of bytes.now direction i }
-{
-    let mut low = 0;
-    let mut high = road_count(bytes);
-    while low < high {
-        let middle = (low + high) / 2;
-        if key(bytes, direction, middle) < place {
-            low = middle + 1;
-        } else {
-            high = middle;
-        }
+    /// The j-th road that ends at a place: the arrivals are sorted by the ends of their roads.
+    pub(crate) fn nth_arrival(&self, place: Place, j: usize) -> Option<RoadId>
+        ensures { let b = self.now.bytes.now in result ≡ listed_at (places b) (map_in b).arrivals place.0 j }
+    {
+        let fields = self.fields();
+        let arrivals = fields.arrivals();
+        nth_at(arrivals, |entry| fields.end_of(entry), place.0, j).map(|i| arrival_in(&arrivals[i]))
     }
-    low
-}
-
-/// The j-th road that touches a place with the end that the list is sorted by.
-pub(crate) fn listed(bytes: &[u8], direction: Direction, place: Place, j: usize) -> Option<RoadId>
-    requires { accepts bytes.now ≡ true }
-    ensures { result ≡ listed_at (places bytes.now) (listing bytes.now direction) place.0 j }
-{
-    if usize::from(place.0) >= place_count(bytes) {
-        return None;
-    }
-    let first = first_entry(bytes, direction, place.0);
-    if j >= road_count(bytes) - first {
-        return None;
-    }
-    if key(bytes, direction, first + j) != place.0 {
-        return None;
-    }
-    Some(RoadId(entry(bytes, direction, first + j)))
 }

@@ -4,10 +4,8 @@ ghost use Rattle.format.specs.Reading.{map_in};
 ghost use Rattle.cartridge.specs.Reads.{blank_bytes, Reads};
 ghost use Rattle.format.proofs.Sound.{accepted_keeps_rules};
 
-use crate::bytes::{district_at, district_count, place_count, road_at, road_count};
 use crate::cartridges::Cartridge;
 use crate::judge::judge;
-use crate::listings::{Direction, listed};
 use format::Refusal;
 use fringe::Place;
 use map::{District, Map, Road, RoadId};
@@ -41,40 +39,31 @@ impl<'a> Map for Cartridge<'a> {
     ghost sound = { λ c. accepted_keeps_rules c.bytes.now c.accepted };
 
     fn places(&self) -> usize {
-        place_count(self.bytes)
+        usize::from(self.fields().place_count())
     }
 
     fn districts(&self) -> usize {
-        district_count(self.bytes)
+        usize::from(self.fields().district_count())
     }
 
     fn roads(&self) -> usize {
-        road_count(self.bytes)
+        usize::from(self.fields().road_count())
     }
 
     fn district(&self, place: Place) -> Option<District> {
-        let p = usize::from(place.0);
-        if p < place_count(self.bytes) {
-            Some(District(district_at(self.bytes, p)))
-        } else {
-            None
-        }
+        let districts = self.fields().districts();
+        districts.get(usize::from(place.0)).copied().map(District)
     }
 
     fn road(&self, number: RoadId) -> Option<Road> {
-        let r = usize::from(number.0);
-        if r < road_count(self.bytes) {
-            Some(road_at(self.bytes, r))
-        } else {
-            None
-        }
+        self.fields().road(number)
     }
 
     fn departure(&self, place: Place, j: usize) -> Option<RoadId> {
-        listed(self.bytes, Direction::Outward, place, j)
+        self.nth_departure(place, j)
     }
 
     fn arrival(&self, place: Place, j: usize) -> Option<RoadId> {
-        listed(self.bytes, Direction::Inward, place, j)
+        self.nth_arrival(place, j)
     }
 }

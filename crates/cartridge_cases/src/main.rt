@@ -1,34 +1,30 @@
 //! Runs the reader over recorded cartridges and compares each outcome with the recorded one.
 #![tactic(auto)]
 
-use anyhow::Context;
+ghost use Rattle.std.specs.Prelude.{◌<◌, IfOk};
+
+use anyhow::anyhow;
 use cartridge::Cartridge;
 use map::Map;
 use std::alloc::{AllocError, Global};
 use std::fs;
 
 /// The value of a hexadecimal digit.
-fn digit(b: u8) -> Option<u8> {
+fn digit(b: u8) -> anyhow::Result<u8>
+    ensures { IfOk result (λ d. d < 16) }
+{
     match b {
-        b'0'..=b'9' => Some(b - b'0'),
-        b'a'..=b'f' => Some(b - b'a' + 10),
-        _ => None,
+        b'0'..=b'9' => Ok(b - b'0'),
+        b'a'..=b'f' => Ok(b - b'a' + 10),
+        _ => Err(anyhow!("not a hexadecimal digit")),
     }
 }
 
 /// The bytes that a row of hexadecimal digits spells.
 fn decode(heap: Global, hex: &str) -> anyhow::Result<Vec<u8>> {
     let mut bytes = Vec::new(heap);
-    let mut high = None;
-    for b in hex.bytes() {
-        let low = digit(b).context("not a hexadecimal digit")?;
-        high = match high {
-            None => Some(low),
-            Some(first) => {
-                bytes.push((first & 15) * 16 + (low & 15))?;
-                None
-            }
-        };
+    for [high, low] in hex.as_bytes().as_chunks::<2>().0 {
+        bytes.push(digit(*high)? * 16 + digit(*low)?)?;
     }
     Ok(bytes)
 }
@@ -48,10 +44,10 @@ fn outcome(heap: Global, bytes: &[u8]) -> Result<String, AllocError> {
 }
 
 /// Whether the reader says of a case what is expected; if not, the case is printed.
-fn agrees(rt: &HostRuntime, expected: &String, hex: &str) -> anyhow::Result<bool> {
+fn agrees(rt: &HostRuntime, expected: &str, hex: &str) -> anyhow::Result<bool> {
     let bytes = decode(rt.alloc(), hex)?;
     let found = outcome(rt.alloc(), &bytes)?;
-    let same = found.as_str() == expected.as_str();
+    let same = found.as_str() == expected;
     if !same {
         println!(rt; "{found} in place of {expected}")?;
     }
@@ -60,16 +56,15 @@ fn agrees(rt: &HostRuntime, expected: &String, hex: &str) -> anyhow::Result<bool
 
 fn run(rt: &HostRuntime) -> anyhow::Result<()> {
     let text = fs::read_to_string(rt, "cases.txt")?;
-    let mut expected = String::new(rt.alloc());
+    let mut expected = "";
     let mut cases = 0u32;
     let mut differ = 0u32;
     for line in text.lines() {
         if let Some(outcome) = line.strip_prefix("E ") {
-            expected = String::from_str(rt.alloc(), outcome)?;
-        }
-        if let Some(hex) = line.strip_prefix("H ") {
+            expected = outcome;
+        } else if let Some(hex) = line.strip_prefix("H ") {
             cases = cases.saturating_add(1);
-            if !agrees(rt, &expected, hex)? {
+            if !agrees(rt, expected, hex)? {
                 differ = differ.saturating_add(1);
             }
         }

@@ -4,9 +4,8 @@
 #[cfg(test)]
 mod tests {
     use cartridge::Cartridge;
-    use format::Refusal;
     use fringe::Place;
-    use map::Map;
+    use map::{District, Map, RoadId};
     use std::alloc::Global;
     use std::test::Fail;
 
@@ -18,13 +17,10 @@ mod tests {
         16, 0, 3, 0, 7, 0, 0, 0, 4, 0, 1, 0, 5, 0, 6, 0, 2, 15, 0, 0,
     ];
 
-    // The number and payload with which bytes are refused; 0 where they are accepted.
-    fn refusal(bytes: &[u8]) -> (u8, usize) {
-        let mut mine = Cartridge::blank();
-        match mine.read(bytes) {
-            Ok(()) => (0, 0),
-            Err(refusal) => (refusal.number(), refusal.payload()),
-        }
+    // The number and payload with which bytes are refused, if they are.
+    fn refusal(bytes: &[u8]) -> Option<(u8, usize)> {
+        let refusal = Cartridge::blank().read(bytes).err()?;
+        Some((refusal.number(), refusal.payload()))
     }
 
     // A cartridge of so many places in one district, and no road.
@@ -42,77 +38,59 @@ mod tests {
         Ok(bytes)
     }
 
-    // The road number at a place of a list, 99 where there is none.
-    fn listed(mine: &Cartridge<'_>, out: bool, place: u16, j: usize) -> u16 {
-        let road = if out {
-            mine.departure(Place(place), j)
-        } else {
-            mine.arrival(Place(place), j)
-        };
-        match road {
-            Some(number) => number.0,
-            None => 99,
-        }
-    }
-
     #[test]
     fn the_sample_lists_its_roads(rt: HostRuntime) {
         let mut mine = Cartridge::blank();
         assert!(rt; mine.read(&SAMPLE).is_ok());
-        assert_eq!(rt; listed(&mine, true, 0, 2), 2);
-        assert_eq!(rt; listed(&mine, true, 0, 3), 99);
-        assert_eq!(rt; listed(&mine, true, 4, 0), 99);
-        assert_eq!(rt; listed(&mine, true, 5, 0), 7);
-        assert_eq!(rt; listed(&mine, false, 0, 0), 3);
-        assert_eq!(rt; listed(&mine, false, 0, 1), 7);
-        assert_eq!(rt; listed(&mine, false, 3, 0), 1);
-        assert_eq!(rt; listed(&mine, false, 3, 1), 5);
-        assert_eq!(rt; listed(&mine, false, 3, 2), 99);
-        assert_eq!(rt; listed(&mine, false, 6, 0), 99);
+        assert_eq!(rt; mine.departure(Place(0), 2), Some(RoadId(2)));
+        assert_eq!(rt; mine.departure(Place(0), 3), None);
+        assert_eq!(rt; mine.departure(Place(4), 0), None);
+        assert_eq!(rt; mine.departure(Place(5), 0), Some(RoadId(7)));
+        assert_eq!(rt; mine.arrival(Place(0), 0), Some(RoadId(3)));
+        assert_eq!(rt; mine.arrival(Place(0), 1), Some(RoadId(7)));
+        assert_eq!(rt; mine.arrival(Place(3), 0), Some(RoadId(1)));
+        assert_eq!(rt; mine.arrival(Place(3), 1), Some(RoadId(5)));
+        assert_eq!(rt; mine.arrival(Place(3), 2), None);
+        assert_eq!(rt; mine.arrival(Place(6), 0), None);
     }
 
     #[test]
-    fn the_sample_has_its_districts(rt: HostRuntime) -> Result<(), Fail> {
+    fn the_sample_has_its_districts(rt: HostRuntime) {
         let mut mine = Cartridge::blank();
         assert!(rt; mine.read(&SAMPLE).is_ok());
-        let expected = [0, 0, 1, 1, 1, 2];
-        for p in 0..6 {
-            let Some(district) = mine.district(Place(p)) else {
-                return Err(Fail::new("no district"));
-            };
-            assert_eq!(rt; district.0, expected[p as usize]);
+        for (p, d) in [(0, 0), (1, 0), (2, 1), (3, 1), (4, 1), (5, 2)] {
+            assert_eq!(rt; mine.district(Place(p)), Some(District(d)));
         }
-        assert!(rt; mine.district(Place(6)).is_none());
-        Ok(())
+        assert_eq!(rt; mine.district(Place(6)), None);
     }
 
     #[test]
     fn limits_are_kept(rt: HostRuntime) -> Result<(), Fail> {
-        assert_eq!(rt; refusal(&roadless(rt.alloc(), 1024)?), (0, 0));
-        assert_eq!(rt; refusal(&roadless(rt.alloc(), 1025)?), (4, 0));
+        assert_eq!(rt; refusal(&roadless(rt.alloc(), 1024)?), None);
+        assert_eq!(rt; refusal(&roadless(rt.alloc(), 1025)?), Some((4, 0)));
         let mut bytes = SAMPLE;
         bytes[24] = 0xea;
         bytes[25] = 0x60;
-        assert_eq!(rt; refusal(&bytes), (0, 0));
+        assert_eq!(rt; refusal(&bytes), None);
         bytes[25] = 0x61;
-        assert_eq!(rt; refusal(&bytes), (7, 0));
+        assert_eq!(rt; refusal(&bytes), Some((7, 0)));
         Ok(())
     }
 
     #[test]
     fn fields_are_walked_first(rt: HostRuntime) {
-        assert_eq!(rt; refusal(&[]), (1, 0));
+        assert_eq!(rt; refusal(&[]), Some((1, 0)));
         assert_eq!(rt;
             refusal(&[
                 1, 0, 5, 0, 1, 1, 32, 0, 2, 0, 1, 0, 3, 0, 0, 4, 0, 0, 15, 0, 0,
             ],),
-            (3, 12)
+            Some((3, 12))
         );
         assert_eq!(rt;
             refusal(&[
                 1, 0, 5, 0, 0, 1, 0, 0, 2, 0, 0, 3, 0, 0, 4, 0, 0, 15, 0, 0, 7,
             ],),
-            (2, 20)
+            Some((2, 20))
         );
     }
 }

@@ -26,7 +26,7 @@ mapped_none f None e = refl
 mapped_none f (Some x) e = let z : ◌≡◌ {A = ℕ} 0 1 = cc in absurd (omega arith)
 
 -- a field that is not refused has its body
-field_there : (b : List ℕ) (offset tag size : ℕ) → field b offset tag size ≡ None → offset + 3 + size ≤ length b
+pub field_there : (b : List ℕ) (offset tag size : ℕ) → field b offset tag size ≡ None → offset + 3 + size ≤ length b
 field_there b offset tag size e =
     let k = (both_pass (unless (leb (offset + 3) (length b)) (Cut offset)) _ e).1 in
     let l = (both_pass (unless (eqb (byte b offset) tag) (WrongTag offset)) _ k).1 in

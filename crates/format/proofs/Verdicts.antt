@@ -1,10 +1,8 @@
 -- What checks answer, by their judgements.
-use Rattle.std.proofs.Common.{◌≡◌, ℕ, ◌+◌, ◌<◌, ◌≤◌, Bool, true, false, List, [], ◌∷◌, length, IsErrAnd, Some, None, Ok, Err, Option, Result, sym, refl, ap, ◌∙◌, arith}
+use Rattle.std.proofs.Common.{◌≡◌, ℕ, ◌+◌, ◌<◌, ◌≤◌, Bool, true, false, List, ◌∷◌, IsErrAnd, Some, None, Ok, Err, Option, Result, sym, refl, ap, ◌∙◌, arith}
 use Rattle.std.specs.Option.{option_map}
 use Rattle.std.proofs.lemmas.Result.{err_from_is_err_and}
 use Rattle.format.specs.declared.Refusal.{Refusal}
-use Rattle.std.proofs.lemmas.Bool.{le-leb, lt-leb}
-use Rattle.format.specs.declared.Refusal.TheVariants.{WrongTag}
 use Rattle.format.specs.Picks.{first}
 use Rattle.format.specs.Reading.{and_then, verdict, field, walked}
 use Rattle.format.proofs.Picks.{In, NoneOf, first_none, first_found}
@@ -56,14 +54,3 @@ module _ {b : List ℕ} {x : Option Refusal} where
   pub step : {o tag size : ℕ} {rest : List (ℕ × ℕ)} → Left b x o ((tag, size) ∷ rest) → {o' : ℕ} → Ok o' ≡ verdict (field b o tag size) (o + 3 + size) → Left b x o' rest
   step {o} {tag} {size} {rest} h {o'} e = let k = goes_on (field b o tag size) (o + 3 + size) o' e in
       record { is = h.is ∙ next (field b o tag size) (walked b (o + 3 + size) rest) k.0 ∙ ap (λ n. walked b n rest) (sym k.1) }
-
-  pub leave : {o tag size : ℕ} {rest : List (ℕ × ℕ)} → Left b x o ((tag, size) ∷ rest) →
-      (out : Result Unit Refusal) (e : Refusal) → IsErrAnd out (λ y. y ≡ e) → Err e ≡ verdict (field b o tag size) (o + 3 + size) → out ≡ verdict x tt
-  leave {o} {tag} {size} {rest} h out e d k = rw h.is (exit out e d (field b o tag size) (walked b (o + 3 + size) rest) (o + 3 + size) tt k)
-
-  -- nothing is left but what stands after the last field
-  pub ends : {o : ℕ} → Left b x o [] → length b ≤ o → ◌≡◌ {A = Result Unit Refusal} (Ok tt) (verdict x tt)
-  ends {o} h l = rw (h.is, le-leb (length b) o l)
-
-  pub goes_past : {o : ℕ} → Left b x o [] → o < length b → ◌≡◌ {A = Result Unit Refusal} (Err (WrongTag o)) (verdict x tt)
-  goes_past {o} h l = rw (h.is, lt-leb (length b) o l)

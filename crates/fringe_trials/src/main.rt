@@ -4,6 +4,7 @@
 use fringe::{Fringe, Order, Pair, Place, drain};
 use heap::Heap;
 use measure::{Steepness, Time};
+use std::alloc::{AllocError, Global};
 use winner_tree::WinnerTree;
 
 /// How many places the fringes have room for.
@@ -58,77 +59,34 @@ fn same<C: Order>(a: &C, b: &C) -> bool {
 /// Whether two answers name one place and costs that stand for one thing.
 fn agree<C: Order + Copy>(a: Option<(Place, C)>, b: Option<(Place, C)>) -> bool {
     match (a, b) {
-        (Some(x), Some(y)) => x.0.0 == y.0.0 && same(&x.1, &y.1),
+        (Some((p, c)), Some((q, d))) => p == q && same(&c, &d),
         (None, None) => true,
         _ => false,
     }
 }
 
-/// What a row holds at a place.
-fn held<C: Copy>(row: &[Option<C>], p: usize) -> Option<C> {
-    if p < row.len() { row[p] } else { None }
-}
-
-/// The better of the best so far and what is held at a later place.
-fn better<C: Order + Copy>(
-    best: Option<(Place, C)>,
-    place: Place,
-    cost: Option<C>,
-) -> Option<(Place, C)> {
-    let Some(c) = cost else {
-        return best;
-    };
-    match best {
-        Some(b) => {
-            if c.less(&b.1) {
-                Some((place, c))
-            } else {
-                Some(b)
-            }
-        }
-        None => Some((place, c)),
-    }
-}
-
 /// The least of a row, and of equals the lowest place, by looking at every place.
 fn scan<C: Order + Copy>(row: &[Option<C>]) -> Option<(Place, C)> {
-    let mut best = None;
-    for p in 0..PLACES {
-        best = better(best, Place(p as u16), held(row, p));
-    }
-    best
-}
-
-/// Whether a cost is to be written over what is held.
-fn lowers<C: Order + Copy>(held: Option<C>, cost: C) -> bool {
-    match held {
-        Some(old) => cost.less(&old),
-        None => true,
-    }
+    (0..PLACES as u16)
+        .zip(row)
+        .filter_map(|(p, cost)| Some((Place(p), (*cost)?)))
+        .reduce(|best, next| if next.1.less(&best.1) { next } else { best })
 }
 
 /// Enters a place of a row, or lowers its cost.
 fn enter<C: Order + Copy>(row: &mut [Option<C>], p: usize, cost: C) {
-    if p < row.len() {
-        if lowers(row[p], cost) {
-            row[p] = Some(cost);
+    if let Some(held) = row.get_mut(p) {
+        if held.is_none_or(|old| cost.less(&old)) {
+            *held = Some(cost);
         }
-    }
-}
-
-/// Takes all out of a row.
-fn wipe<C: Copy>(row: &mut [Option<C>]) {
-    for p in 0..row.len() {
-        row[p] = None;
     }
 }
 
 /// Takes what is held at a place out of a row.
 fn leave<C: Copy>(row: &mut [Option<C>], taken: Option<(Place, C)>) {
-    if let Some(t) = taken {
-        let p = usize::from(t.0.0);
-        if p < row.len() {
-            row[p] = None;
+    if let Some((place, _)) = taken {
+        if let Some(held) = row.get_mut(usize::from(place.0)) {
+            *held = None;
         }
     }
 }
@@ -139,30 +97,24 @@ fn call_both<C: Drawn, F: Fringe<C>>(
     row: &mut [Option<C>],
     dice: &mut Dice,
 ) -> bool {
-    let choice = dice.roll() % 100;
-    if choice == 0 {
-        fringe.clear();
-        wipe(row);
-        return agree(fringe.least(), None);
-    }
-    if choice < 40 {
-        let expected = scan(row);
-        leave(row, expected);
-        return agree(fringe.take(), expected);
-    }
-    let p = dice.roll() % 64;
-    let cost = C::drawn(dice.roll());
-    enter(row, p as usize, cost);
-    let entered = fringe.put(Place(p as u16), cost).is_ok();
-    entered == (p < 60) && agree(fringe.least(), scan(row))
-}
-
-/// The entry at an index, of those that count.
-fn written<C: Copy>(out: &[(Place, C)], count: usize, i: usize) -> Option<(Place, C)> {
-    if i < count && i < out.len() {
-        Some(out[i])
-    } else {
-        None
+    match dice.roll() % 100 {
+        0 => {
+            fringe.clear();
+            row.fill(None);
+            agree(fringe.least(), None)
+        }
+        1..40 => {
+            let expected = scan(row);
+            leave(row, expected);
+            agree(fringe.take(), expected)
+        }
+        _ => {
+            let p = (dice.roll() % 64) as usize;
+            let cost = C::drawn(dice.roll());
+            enter(row, p, cost);
+            let entered = fringe.put(Place(p as u16), cost).is_ok();
+            entered == (p < PLACES) && agree(fringe.least(), scan(row))
+        }
     }
 }
 
@@ -174,10 +126,11 @@ fn drain_both<C: Drawn, F: Fringe<C>>(
 ) -> u32 {
     let count = drain(fringe, out);
     let mut differ = 0u32;
-    for i in 0..out.len() {
+    for (i, entry) in out.iter().enumerate() {
         let expected = scan(row);
         leave(row, expected);
-        if !agree(written(out, count, i), expected) {
+        let drained = (i < count).then_some(*entry);
+        if !agree(drained, expected) {
             differ = differ.saturating_add(1);
         }
     }
@@ -186,94 +139,49 @@ fn drain_both<C: Drawn, F: Fringe<C>>(
 
 /// Drives a fringe; answers how often it differs from a plain scan.
 fn drive<C: Drawn, F: Fringe<C>>(
+    heap: Global,
     fringe: &mut F,
-    row: &mut [Option<C>],
-    out: &mut [(Place, C)],
-) -> u32 {
+    some: (Place, C),
+) -> Result<u32, AllocError> {
+    let mut row = vec![in heap; None; PLACES]?;
+    let mut out = vec![in heap; some; 64]?;
     let mut dice = Dice(7);
     let mut differ = 0u32;
     for _ in 0..CALLS {
-        if !call_both(fringe, row, &mut dice) {
+        if !call_both(fringe, &mut row, &mut dice) {
             differ = differ.saturating_add(1);
         }
     }
-    differ.saturating_add(drain_both(fringe, row, out))
+    Ok(differ.saturating_add(drain_both(fringe, &mut row, &mut out)))
 }
 
-/// Drives a heap over these entries.
-fn drive_heap<C: Drawn>(
-    entries: &mut [(Place, C)],
-    row: &mut [Option<C>],
-    out: &mut [(Place, C)],
-) -> u32 {
-    let mut positions = [5u16; 70];
-    drive(&mut Heap::new(entries, &mut positions), row, out)
-}
-
-/// Drives a winner tree over these costs and matches.
-fn drive_tree<C: Drawn>(
-    costs: &mut [Option<C>],
-    winners: &mut [Option<(Place, C)>],
-    row: &mut [Option<C>],
-    out: &mut [(Place, C)],
-) -> u32 {
-    drive(&mut WinnerTree::new(costs, winners), row, out)
-}
-
-/// How often a heap and a winner tree differ from a plain scan at times.
-fn at_times() -> (u32, u32) {
-    let some = (Place(9), Time(3));
-    let heap = drive_heap(&mut [some; 60], &mut [None; 60], &mut [some; 64]);
-    let tree = drive_tree(
-        &mut [Some(some.1); 60],
-        &mut [Some(some); 70],
-        &mut [None; 60],
-        &mut [some; 64],
-    );
-    (heap, tree)
-}
-
-/// The same at steepnesses.
-fn at_steepnesses() -> (u32, u32) {
-    let some = (Place(9), Steepness(3));
-    let heap = drive_heap(&mut [some; 60], &mut [None; 60], &mut [some; 64]);
-    let tree = drive_tree(
-        &mut [Some(some.1); 60],
-        &mut [Some(some); 70],
-        &mut [None; 60],
-        &mut [some; 64],
-    );
-    (heap, tree)
-}
-
-/// The same at pairs.
-fn at_pairs() -> (u32, u32) {
-    let some = (
-        Place(9),
-        Pair {
-            first: 65_535,
-            second: 3,
-        },
-    );
-    let heap = drive_heap(&mut [some; 60], &mut [None; 60], &mut [some; 64]);
-    let tree = drive_tree(
-        &mut [Some(some.1); 60],
-        &mut [Some(some); 70],
-        &mut [None; 60],
-        &mut [some; 64],
-    );
-    (heap, tree)
+/// How often a heap and a winner tree differ from a plain scan, at costs like this one.
+fn differences<C: Drawn>(heap: Global, cost: C) -> Result<(u32, u32), AllocError> {
+    let some = (Place(9), cost);
+    let mut entries = vec![in heap; some; PLACES]?;
+    let mut costs = vec![in heap; Some(cost); PLACES]?;
+    let mut winners = vec![in heap; Some(some); 70]?;
+    let by_heap = drive(heap, &mut Heap::new(&mut entries, &mut [5; 70]), some)?;
+    let by_tree = drive(heap, &mut WinnerTree::new(&mut costs, &mut winners), some)?;
+    Ok((by_heap, by_tree))
 }
 
 fn run(rt: &HostRuntime) -> anyhow::Result<()> {
-    let (heap, tree) = at_times();
-    println!(rt; "time: of {CALLS} calls {heap} differ at the heap, {tree} at the winner tree")?;
-    let (heap, tree) = at_steepnesses();
-    println!(rt;
-        "steepness: of {CALLS} calls {heap} differ at the heap, {tree} at the winner tree"
-    )?;
-    let (heap, tree) = at_pairs();
-    println!(rt; "pairs: of {CALLS} calls {heap} differ at the heap, {tree} at the winner tree")?;
+    let heap = rt.alloc();
+    let pair = Pair {
+        first: 65_535,
+        second: 3,
+    };
+    let kinds = [
+        ("time", differences(heap, Time(3))?),
+        ("steepness", differences(heap, Steepness(3))?),
+        ("pairs", differences(heap, pair)?),
+    ];
+    for (kind, (heap, tree)) in kinds {
+        println!(rt;
+            "{kind}: of {CALLS} calls {heap} differ at the heap, {tree} at the winner tree"
+        )?;
+    }
     Ok(())
 }
 

@@ -6,6 +6,7 @@ mod making;
 mod reader;
 mod refusals;
 mod sides;
+mod spots;
 mod tiles;
 
 pub use grids::Grid;

@@ -10,7 +10,7 @@ use crate::tiles::tiles_along;
 fn countable(n: u16) -> bool
     ensures { result ≡ (nat_le 1 n && nat_le n 32) }
 {
-    1 <= n && n <= 32
+    (1..=32).contains(&n)
 }
 
 impl Grid {

@@ -4,10 +4,10 @@ ghost use Rattle.map.proofs.Grids.{grid_keeps_rules};
 ghost use Rattle.grid.specs.Made.{figures_of, in_range};
 
 use crate::grids::Grid;
-use crate::sides::{direction_of, nth_present};
+use crate::sides::{DIRECTIONS, nth_present};
 use crate::tiles::tiles_along;
 use fringe::Place;
-use map::{Direction, District, Map, Mark, Road, RoadId};
+use map::{District, Map, Mark, Road, RoadId};
 
 impl Map for Grid {
     ghost model = { λ g. grid_model (figures_of g) };
@@ -27,21 +27,14 @@ impl Map for Grid {
     }
 
     fn district(&self, place: Place) -> Option<District> {
-        if place.0 < self.place_count() {
-            Some(District(self.tile_of(place.0) as u8))
-        } else {
-            None
-        }
+        Some(District(self.spot(place)?.tile() as u8))
     }
 
     fn road(&self, number: RoadId) -> Option<Road> {
-        if number.0 >= 4 * self.place_count() {
-            return None;
-        }
-        let start = number.0 / 4;
-        let end = self.neighbour(start, direction_of(number.0 % 4))?;
+        let start = self.spot(Place(number.0 / 4))?;
+        let end = start.neighbour(DIRECTIONS[usize::from(number.0 % 4)])?;
         Some(Road {
-            start: Place(start),
+            start: Place(start.place),
             end: Place(end),
             seconds: self.seconds,
             steepness: self.steepness,
@@ -50,24 +43,12 @@ impl Map for Grid {
     }
 
     fn departure(&self, place: Place, j: usize) -> Option<RoadId> {
-        if place.0 >= self.place_count() {
-            return None;
-        }
-        let north = self.leaving_to(place.0, Direction::North);
-        let west = self.leaving_to(place.0, Direction::West);
-        let east = self.leaving_to(place.0, Direction::East);
-        let south = self.leaving_to(place.0, Direction::South);
-        nth_present([north, west, east, south], j)
+        let spot = self.spot(place)?;
+        nth_present(DIRECTIONS.map(|d| spot.leaving_to(d)), j)
     }
 
     fn arrival(&self, place: Place, j: usize) -> Option<RoadId> {
-        if place.0 >= self.place_count() {
-            return None;
-        }
-        let north = self.arriving_from(place.0, Direction::North);
-        let west = self.arriving_from(place.0, Direction::West);
-        let east = self.arriving_from(place.0, Direction::East);
-        let south = self.arriving_from(place.0, Direction::South);
-        nth_present([north, west, east, south], j)
+        let spot = self.spot(place)?;
+        nth_present(DIRECTIONS.map(|d| spot.arriving_from(d)), j)
     }
 }

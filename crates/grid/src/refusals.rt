@@ -6,7 +6,7 @@ ghost use Rattle.grid.specs.Refusals.{number_of};
 #[derive(Clone, Copy, PartialEq, Eq, Debug)]
 pub enum Refusal {
     /// A figure is out of range, or there would be too many tiles.
-    OutOfRange,
+    OutOfRange = 9,
 }
 
 impl Refusal {
@@ -14,8 +14,6 @@ impl Refusal {
     pub fn number(self) -> u8
         ensures { result ≡ number_of self }
     {
-        match self {
-            Refusal::OutOfRange => 9,
-        }
+        self as u8
     }
 }

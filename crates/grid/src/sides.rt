@@ -1,25 +1,22 @@
 //! The four sides of a place.
 ghost use Rattle.std.specs.Prelude.{◌≡◌, ◌<◌, ◌≤◌};
-ghost use Rattle.map.specs.Grids.{place_count, place_at, neighbour, direction_of, opposite, road_number, leaving, arriving, present};
+ghost use Rattle.map.specs.Grids.{place_count, place_at, neighbour, opposite, road_number, leaving, arriving, present};
 ghost use Rattle.grid.specs.Made.{figures_of};
 ghost use Rattle.grid.specs.Sides.{nth};
 
 use crate::grids::Grid;
+use crate::spots::Spot;
 use map::{Direction, RoadId};
 
-/// The direction of a number below 4.
-pub(crate) fn direction_of(number: u16) -> Direction
-    ensures { result ≡ direction_of number }
-{
-    match number {
-        0 => Direction::North,
-        1 => Direction::West,
-        2 => Direction::East,
-        _ => Direction::South,
-    }
-}
+/// The directions, each at its number.
+pub(crate) const DIRECTIONS: [Direction; 4] = [
+    Direction::North,
+    Direction::West,
+    Direction::East,
+    Direction::South,
+];
 
-/// The way back.
+/// The way back. A function, since the crate that declares a type declares its methods.
 fn opposite_of(direction: Direction) -> Direction
     ensures { result ≡ opposite direction }
 {
@@ -56,38 +53,38 @@ impl Grid {
     {
         row * self.columns + column
     }
+}
 
-    /// The place next to a place in a direction.
-    pub(crate) fn neighbour(&self, place: u16, direction: Direction) -> Option<u16>
-        requires { place < place_count (figures_of self.now) }
-        ensures { result ≡ neighbour (figures_of self.now) place direction }
+impl Spot<'_> {
+    /// The place next to it in a direction.
+    pub(crate) fn neighbour(&self, direction: Direction) -> Option<u16>
+        ensures { result ≡ neighbour (figures_of self.now.grid.now) self.now.place direction }
     {
-        let row = place / self.columns;
-        let column = place % self.columns;
+        let grid = self.grid;
+        let row = self.row();
+        let column = self.column();
         match direction {
-            Direction::North if row > 0 => Some(self.place_at(row - 1, column)),
-            Direction::West if column > 0 => Some(self.place_at(row, column - 1)),
-            Direction::East if column + 1 < self.columns => Some(self.place_at(row, column + 1)),
-            Direction::South if row + 1 < self.rows => Some(self.place_at(row + 1, column)),
+            Direction::North if row > 0 => Some(grid.place_at(row - 1, column)),
+            Direction::West if column > 0 => Some(grid.place_at(row, column - 1)),
+            Direction::East if column + 1 < grid.columns => Some(grid.place_at(row, column + 1)),
+            Direction::South if row + 1 < grid.rows => Some(grid.place_at(row + 1, column)),
             _ => None,
         }
     }
 
-    /// The number of the road that leaves a place in a direction.
-    pub(crate) fn leaving_to(&self, place: u16, direction: Direction) -> Option<u16>
-        requires { place < place_count (figures_of self.now) }
-        ensures { result ≡ leaving (figures_of self.now) place direction }
+    /// The number of the road that leaves it in a direction.
+    pub(crate) fn leaving_to(&self, direction: Direction) -> Option<u16>
+        ensures { result ≡ leaving (figures_of self.now.grid.now) self.now.place direction }
     {
-        self.neighbour(place, direction)?;
-        Some(road_number(place, direction))
+        self.neighbour(direction)?;
+        Some(road_number(self.place, direction))
     }
 
-    /// The number of the road that comes to a place from a direction.
-    pub(crate) fn arriving_from(&self, place: u16, direction: Direction) -> Option<u16>
-        requires { place < place_count (figures_of self.now) }
-        ensures { result ≡ arriving (figures_of self.now) place direction }
+    /// The number of the road that comes to it from a direction.
+    pub(crate) fn arriving_from(&self, direction: Direction) -> Option<u16>
+        ensures { result ≡ arriving (figures_of self.now.grid.now) self.now.place direction }
     {
-        let origin = self.neighbour(place, direction)?;
+        let origin = self.neighbour(direction)?;
         Some(road_number(origin, opposite_of(direction)))
     }
 }
@@ -96,14 +93,5 @@ impl Grid {
 pub(crate) fn nth_present(numbers: [Option<u16>; 4], j: usize) -> Option<RoadId>
     ensures { result ≡ nth (present numbers) j }
 {
-    let mut left = j;
-    for number in numbers {
-        if let Some(r) = number {
-            if left == 0 {
-                return Some(RoadId(r));
-            }
-            left -= 1;
-        }
-    }
-    None
+    numbers.into_iter().flatten().nth(j).map(RoadId)
 }

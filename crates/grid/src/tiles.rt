@@ -1,9 +1,9 @@
 //! The tiles of a grid.
 ghost use Rattle.std.specs.Prelude.{◌≡◌, ◌<◌, ◌≤◌};
-ghost use Rattle.map.specs.Grids.{place_count, tiles, district_of};
+ghost use Rattle.map.specs.Grids.{tiles, district_of};
 ghost use Rattle.grid.specs.Made.{figures_of};
 
-use crate::grids::Grid;
+use crate::spots::Spot;
 
 /// How many tiles of a side cover a length. A partly filled one counts.
 pub(crate) fn tiles_along(length: u16, side: u16) -> u16
@@ -15,15 +15,13 @@ pub(crate) fn tiles_along(length: u16, side: u16) -> u16
     (length + side - 1) / side
 }
 
-impl Grid {
-    /// The number of the tile that a place is in.
-    pub(crate) fn tile_of(&self, place: u16) -> u16
-        requires { place < place_count (figures_of self.now) }
-        ensures number { result ≡ district_of (figures_of self.now) place }
+impl Spot<'_> {
+    /// The number of the tile that it is in.
+    pub(crate) fn tile(&self) -> u16
+        ensures number { result ≡ district_of (figures_of self.now.grid.now) self.now.place }
         ensures few { result < 64 }
     {
-        let row = place / self.columns / self.side;
-        let column = place % self.columns / self.side;
-        row * tiles_along(self.columns, self.side) + column
+        let side = self.grid.side;
+        self.row() / side * tiles_along(self.grid.columns, side) + self.column() / side
     }
 }

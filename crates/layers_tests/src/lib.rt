@@ -15,39 +15,25 @@ mod tests {
         20, 0, 5, 4, 0, 4, 0, 1, 0, 0, 15, 0, 0,
     ];
 
-    // The number of a refusal, or 0.
-    fn number(answer: Result<(), Refusal>) -> u8 {
-        match answer {
-            Ok(()) => 0,
-            Err(refusal) => refusal.number(),
-        }
+    // The number of a refusal, if there is one.
+    fn number(answer: Result<(), Refusal>) -> Option<u8> {
+        Some(answer.err()?.number())
     }
 
-    // The seconds of a road as it reads, or 65535 where there is none.
-    fn seconds<M: Map>(map: &M, road: u16) -> u16 {
-        match map.road(RoadId(road)) {
-            Some(x) => x.seconds,
-            None => u16::MAX,
-        }
+    // The seconds of a road as it reads.
+    fn seconds<M: Map>(map: &M, road: u16) -> Option<u16> {
+        Some(map.road(RoadId(road))?.seconds)
     }
 
     // Whether a road reads as closed.
     fn closed<M: Map>(map: &M, road: u16) -> bool {
-        match map.road(RoadId(road)) {
-            Some(x) => match x.mark {
-                Mark::Closed => true,
-                Mark::Open => false,
-            },
-            None => false,
-        }
+        map.road(RoadId(road))
+            .is_some_and(|x| x.mark == Mark::Closed)
     }
 
     // A grid of one row of 32 places, at 7 seconds. Its eastward roads are 4 × place + 2.
     fn row() -> Result<Grid, Fail> {
-        match Grid::new(1, 32, 32, 7, 3) {
-            Ok(grid) => Ok(grid),
-            Err(_) => Err(Fail::new("refused")),
-        }
+        Ok(Grid::new(1, 32, 32, 7, 3)?)
     }
 
     #[test]
@@ -60,10 +46,10 @@ mod tests {
             }
         }
         assert_eq!(rt; accepted, 62);
-        assert_eq!(rt; number(layer.close(RoadId(0))), 11);
-        assert_eq!(rt; number(layer.close(RoadId(2))), 12);
-        assert_eq!(rt; number(layer.open(RoadId(2))), 0);
-        assert_eq!(rt; number(layer.open(RoadId(2))), 13);
+        assert_eq!(rt; number(layer.close(RoadId(0))), Some(11));
+        assert_eq!(rt; number(layer.close(RoadId(2))), Some(12));
+        assert_eq!(rt; number(layer.open(RoadId(2))), None);
+        assert_eq!(rt; number(layer.open(RoadId(2))), Some(13));
         assert!(rt; !closed(&layer, 2));
         assert!(rt; closed(&layer, 6));
         Ok(())
@@ -71,24 +57,21 @@ mod tests {
 
     #[test]
     fn the_sixty_fifth_is_refused(rt: HostRuntime) -> Result<(), Fail> {
-        let Ok(grid) = Grid::new(5, 5, 5, 7, 3) else {
-            return Err(Fail::new("refused"));
-        };
-        let mut layer = Closures::new(grid);
+        let mut layer = Closures::new(Grid::new(5, 5, 5, 7, 3)?);
         let mut accepted = 0u32;
         let mut full = 0u32;
         for r in 0..100 {
             match number(layer.close(RoadId(r))) {
-                0 => accepted = accepted.saturating_add(1),
-                14 => full = full.saturating_add(1),
+                None => accepted = accepted.saturating_add(1),
+                Some(14) => full = full.saturating_add(1),
                 _ => {}
             }
         }
         assert_eq!(rt; (accepted, full), (64, 16));
-        assert_eq!(rt; number(layer.close(RoadId(98))), 11);
-        assert_eq!(rt; number(layer.close(RoadId(97))), 14);
-        assert_eq!(rt; number(layer.open(RoadId(2))), 0);
-        assert_eq!(rt; number(layer.close(RoadId(97))), 0);
+        assert_eq!(rt; number(layer.close(RoadId(98))), Some(11));
+        assert_eq!(rt; number(layer.close(RoadId(97))), Some(14));
+        assert_eq!(rt; number(layer.open(RoadId(2))), None);
+        assert_eq!(rt; number(layer.close(RoadId(97))), None);
         assert!(rt; closed(&layer, 97) && !closed(&layer, 2));
         Ok(())
     }
@@ -96,16 +79,16 @@ mod tests {
     #[test]
     fn slowdowns_over_a_grid(rt: HostRuntime) -> Result<(), Fail> {
         let mut layer = Slowdowns::new(row()?);
-        assert_eq!(rt; number(layer.slow(RoadId(2), 60001)), 15);
-        assert_eq!(rt; number(layer.slow(RoadId(2), 20)), 0);
-        assert_eq!(rt; seconds(&layer, 2), 20);
-        assert_eq!(rt; number(layer.slow(RoadId(2), 9)), 0);
-        assert_eq!(rt; seconds(&layer, 2), 9);
-        assert_eq!(rt; number(layer.slow(RoadId(2), 3)), 0);
-        assert_eq!(rt; seconds(&layer, 2), 7);
+        assert_eq!(rt; number(layer.slow(RoadId(2), 60001)), Some(15));
+        assert_eq!(rt; number(layer.slow(RoadId(2), 20)), None);
+        assert_eq!(rt; seconds(&layer, 2), Some(20));
+        assert_eq!(rt; number(layer.slow(RoadId(2), 9)), None);
+        assert_eq!(rt; seconds(&layer, 2), Some(9));
+        assert_eq!(rt; number(layer.slow(RoadId(2), 3)), None);
+        assert_eq!(rt; seconds(&layer, 2), Some(7));
         assert!(rt; !layer.is_empty());
-        assert_eq!(rt; number(layer.clear(RoadId(2))), 0);
-        assert_eq!(rt; number(layer.clear(RoadId(2))), 13);
+        assert_eq!(rt; number(layer.clear(RoadId(2))), None);
+        assert_eq!(rt; number(layer.clear(RoadId(2))), Some(13));
         assert!(rt; layer.is_empty());
         Ok(())
     }
@@ -115,11 +98,11 @@ mod tests {
         let mut mine = Cartridge::blank();
         assert!(rt; mine.read(&PAIR).is_ok());
         let mut layer = Closures::new(Slowdowns::new(mine));
-        assert_eq!(rt; number(layer.below.slow(RoadId(1), 30)), 0);
-        assert_eq!(rt; number(layer.close(RoadId(0))), 0);
-        assert_eq!(rt; number(layer.close(RoadId(2))), 11);
+        assert_eq!(rt; number(layer.below.slow(RoadId(1), 30)), None);
+        assert_eq!(rt; number(layer.close(RoadId(0))), None);
+        assert_eq!(rt; number(layer.close(RoadId(2))), Some(11));
         assert!(rt; closed(&layer, 0) && !closed(&layer, 1));
-        assert_eq!(rt; seconds(&layer, 0), 10);
-        assert_eq!(rt; seconds(&layer, 1), 30);
+        assert_eq!(rt; seconds(&layer, 0), Some(10));
+        assert_eq!(rt; seconds(&layer, 1), Some(30));
     }
 }

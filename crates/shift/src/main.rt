@@ -15,8 +15,8 @@ fn print_survey<M: Map>(rt: &HostRuntime, map: &M) -> anyhow::Result<()> {
         map.districts(),
         map.roads()
     )?;
-    for d in 0..map.districts() {
-        let district = District(d as u8);
+    for d in 0..map.districts() as u8 {
+        let district = District(d);
         println!(rt;
             "district {d}: {} places, {} roads leave it",
             places_in(map, district),
@@ -28,10 +28,7 @@ fn print_survey<M: Map>(rt: &HostRuntime, map: &M) -> anyhow::Result<()> {
 
 /// The bytes of the cartridge.
 fn load(rt: &HostRuntime) -> anyhow::Result<Vec<u8>> {
-    match fs::read(rt, "MINE.MAP") {
-        Ok(bytes) => Ok(bytes),
-        Err(_) => Err(anyhow!("MINE.MAP cannot be read")),
-    }
+    fs::read(rt, "MINE.MAP").map_err(|_| anyhow!("MINE.MAP cannot be read"))
 }
 
 fn run(rt: &HostRuntime) -> anyhow::Result<()> {

@@ -1,13 +1,17 @@
--- One more number is counted, or not.
-use Rattle.std.proofs.Common.{◌≡◌, ℕ, suc, ◌+◌, ◌≤◌, Bool, true, false, ap, arith}
+-- The numbers that a filter over a range keeps, counted.
+use Rattle.std.proofs.Common.{◌≡◌, ℕ, zero, suc, ◌+◌, Bool, cond, length, refl, ap, ◌∙◌, add-one, arith}
+use Rattle.std.specs.List.{filter, sum_by, range_with_len}
+use Rattle.std.proofs.lemmas.List.{map-id}
+use Rattle.std.proofs.lemmas.List.FromFn.{sum_by-map-range_with_len_more}
+use Rattle.std.proofs.lemmas.List.Sums.{length-filter}
 use Rattle.survey.specs.Counts.{count}
 
--- what a loop that counts keeps
-abbrev pub Counted : (ℕ → Bool) → ℕ → ℕ → Type 0
-Counted t n k = (k ≡ count t n) × (k ≤ n)
+module _ (t : ℕ → Bool) where
+  summed : (n : ℕ) → sum_by (λ x. cond (t x) 1 0) (range_with_len 0 n) ≡ count t n
+  summed zero = refl
+  summed (suc n) =
+      let more = simp map-id at (sum_by-map-range_with_len_more (λ x. cond (t x) 1 0) (λ (x : ℕ). x) 0 n n (omega arith)) in
+      rw add-one at more ∙ ap (λ k. k + cond (t n) 1 0) (summed n)
 
-pub counts_more : (t : ℕ → Bool) (n k : ℕ) → Counted t n k → t n ≡ true → Counted t (n + 1) (k + 1)
-counts_more t n k h e = let l = h.1 in let s : n + 1 ≡ suc n = omega arith in (rw s (rw e (ap (λ i. i + 1) h.0)), omega arith)
-
-pub counts_same : (t : ℕ → Bool) (n k : ℕ) → Counted t n k → t n ≡ false → Counted t (n + 1) k
-counts_same t n k h e = let l = h.1 in let z : count t n + 0 ≡ count t n = omega arith in let s : n + 1 ≡ suc n = omega arith in (rw s (rw (e, z) h.0), omega arith)
+  pub counted : (n : ℕ) → length (filter t (range_with_len 0 n)) ≡ count t n
+  counted n = length-filter t (range_with_len 0 n) ∙ summed n

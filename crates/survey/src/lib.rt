@@ -11,44 +11,32 @@ use map::{District, Map, RoadId};
 pub fn places_in<M: Map>(map: &M, district: District) -> usize
     ensures { result ≡ places_in (M.Map.model map.now) district.0 }
 {
-    let mut count = 0;
-    for p in 0..map.places() {
-        if is_in(map, district, Place(p as u16)) {
-            count += 1;
-        }
-    }
-    count
+    (0..map.places() as u16)
+        .filter(|&p| is_in(map, district, Place(p)))
+        .count()
 }
 
 /// How many roads, open or closed, start in a district and end in another.
 pub fn roads_leaving<M: Map>(map: &M, district: District) -> usize
     ensures { result ≡ roads_leaving (M.Map.model map.now) district.0 }
 {
-    let mut count = 0;
-    for r in 0..map.roads() {
-        if leaves(map, district, RoadId(r as u16)) {
-            count += 1;
-        }
-    }
-    count
+    (0..map.roads() as u16)
+        .filter(|&r| leaves(map, district, RoadId(r)))
+        .count()
 }
 
 /// Whether a place is one of the district.
 fn is_in<M: Map>(map: &M, district: District, place: Place) -> bool
     ensures { result ≡ in_district (M.Map.model map.now) district.0 place.0 }
 {
-    match map.district(place) {
-        Some(own) => own.0 == district.0,
-        None => false,
-    }
+    map.district(place) == Some(district)
 }
 
 /// Whether a road leaves the district.
 fn leaves<M: Map>(map: &M, district: District, number: RoadId) -> bool
     ensures { result ≡ crosses (M.Map.model map.now) district.0 ((M.Map.model map.now).road number.0) }
 {
-    match map.road(number) {
-        Some(road) => is_in(map, district, road.start) && !is_in(map, district, road.end),
-        None => false,
-    }
+    let inside = |place| is_in(map, district, place);
+    map.road(number)
+        .is_some_and(|road| inside(road.start) && !inside(road.end))
 }

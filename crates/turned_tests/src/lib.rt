@@ -21,10 +21,7 @@ mod tests {
 
     // The places 0 1 2 stand over 3 4 5.
     fn two_rows_of_three() -> Result<Grid, Fail> {
-        match Grid::new(2, 3, 2, 40, 15) {
-            Ok(grid) => Ok(grid),
-            Err(_) => Err(Fail::new("refused")),
-        }
+        Ok(Grid::new(2, 3, 2, 40, 15)?)
     }
 
     // Road 18 leads from 4 east to 5, and no road 19 leads south from 4.

@@ -1,13 +1,14 @@
-use Rattle.std.proofs.Common.{ℕ, Bool, sym, subst}
+use Rattle.std.proofs.Common.{ℕ, Bool, ◌∙◌, arith, rules, tests}
+use Rattle.std.proofs.lemmas.Iterator.{YieldsList-from_range}
+use Rattle.std.proofs.lemmas.Iterator.Consumers.{YieldsList-from_filter, count_from_yields_List}
 use Rattle.survey.specs.Counts.{crosses}
-use Rattle.survey.proofs.Counting.{Counted, counts_more, counts_same}
+use Rattle.survey.proofs.Counting.{counted}
 use Rattle.survey.proofs.roads_leaving.Goals as goal
-use Rattle.survey.proofs.roads_leaving.Goals.{then-leaves, else-leaves}
 
-pub loop-r-preserved : goal.loop-r-preserved
-loop-r-preserved g c =
-    let t : ℕ → Bool = λ r. crosses (g.M.Map.model c.args.map.now) c.args.district.0 ((g.M.Map.model c.args.map.now).road r) in
-    elim c.if-leaves.branch [
-      | then-leaves w ↦ subst (Counted t _) (sym w.count-is) (counts_more t c.loop-r.r c.loop-r.count c.loop-r.invariant (sym w.if-leaves.ensures))
-      | else-leaves w ↦ subst (Counted t _) (sym w.count-is) (counts_same t c.loop-r.r c.loop-r.count c.loop-r.invariant (sym w.if-leaves.ensures))
-    ]
+pub returns : goal.returns
+returns g c =
+    let m = g.M.Map.model c.args.map.now in
+    let t : ℕ → Bool = λ r. crosses m c.args.district.0 (m.road r) in
+    count_from_yields_List c.filter.result c.count.result c.count.ensures.ran
+    (YieldsList-from_filter _ t (YieldsList-from_range 0 m.roads m.roads (cc) (omega arith)) c.filter.ensures.closure (λ x b q k. search (rules, tests)))
+    ∙ counted t m.roads

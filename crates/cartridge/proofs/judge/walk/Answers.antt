@@ -1,7 +1,9 @@
-use Rattle.std.proofs.Common.{◌≡◌, ℕ, ◌*◌, List, [], ◌∷◌, refl}
+use Rattle.std.proofs.Common.{◌≡◌, ℕ, ◌*◌, List, [], ◌∷◌, refl, ◌∙◌, arith}
 use Rattle.format.specs.Bytes.{places, roads}
 use Rattle.format.specs.Reading.{fields}
-use Rattle.format.proofs.Verdicts.{Left, step, leave, ends, goes_past}
+use Rattle.format.proofs.Accepted.{all_there}
+use Rattle.format.proofs.Verdicts.{Left, step}
+use Rattle.cartridge.proofs.Walking.{walks_on, refuses_with, leaves_with, field_ends, done, goes_past}
 use Rattle.cartridge.proofs.judge.walk.Goals as goal
 
 -- all fields, by the counts
@@ -11,54 +13,25 @@ begin b p m e f = record { is = rw (e, f) }
 
 pub returns-in_err-offset : goal.returns-in_err-offset
 returns-in_err-offset c =
-    leave (begin c.args.bytes.now _ _ refl refl) _ _ c.from_residual.ensures.1 c.in_err-offset.ensures
+    leaves_with _ _ _ _ c.from_residual.ensures.1 (refuses_with ((1, 5) ∷ (2, places c.args.bytes.now) ∷ (3, 8 * roads c.args.bytes.now) ∷ (4, 2 * roads c.args.bytes.now) ∷ (15, 0) ∷ []) 0 (0, 0) (begin c.args.bytes.now _ _ refl refl) (omega arith) _ c.in_err-offset.ensures)
+
+pub loop-tag-init : goal.loop-tag-init
+loop-tag-init c =
+    (step (begin c.args.bytes.now _ _ (c.from-places.ensures ∙ c.place_count.ensures) (c.from-roads.ensures ∙ c.road_count.ensures)) c.in_ok-offset.ensures, field_ends c.args.bytes.now 0 1 5 _ c.in_ok-offset.ensures)
 
 pub returns-in_err-offset-2 : goal.returns-in_err-offset-2
 returns-in_err-offset-2 c =
-    let s = begin c.args.bytes.now _ _ c.place_count-places.ensures.count c.road_count-roads.ensures.count in
-    let s = step s c.in_ok-offset.ensures in
-    leave s _ _ c.from_residual-in_err-offset-2.ensures.1 c.in_err-offset-2.ensures
+    leaves_with _ _ _ _ c.from_residual-in_err-offset-2.ensures.1 (refuses_with _ c.loop-tag.tag-index _ c.loop-tag.invariant.0 (omega arith) _ c.in_err-offset-2.ensures)
 
-pub returns-in_err-offset-3 : goal.returns-in_err-offset-3
-returns-in_err-offset-3 c =
-    let s = begin c.args.bytes.now _ _ c.place_count-places.ensures.count c.road_count-roads.ensures.count in
-    let s = step s c.in_ok-offset.ensures in
-    let s = step s c.in_ok-offset-2.ensures in
-    leave s _ _ c.from_residual-in_err-offset-3.ensures.1 c.in_err-offset-3.ensures
-
-pub returns-in_err-offset-4 : goal.returns-in_err-offset-4
-returns-in_err-offset-4 c =
-    let s = begin c.args.bytes.now _ _ c.place_count-places.ensures.count c.road_count-roads.ensures.count in
-    let s = step s c.in_ok-offset.ensures in
-    let s = step s c.in_ok-offset-2.ensures in
-    let s = step s c.in_ok-offset-3.ensures in
-    leave s _ _ c.from_residual-in_err-offset-4.ensures.1 c.in_err-offset-4.ensures
-
-pub returns-in_err-offset-5 : goal.returns-in_err-offset-5
-returns-in_err-offset-5 c =
-    let s = begin c.args.bytes.now _ _ c.place_count-places.ensures.count c.road_count-roads.ensures.count in
-    let s = step s c.in_ok-offset.ensures in
-    let s = step s c.in_ok-offset-2.ensures in
-    let s = step s c.in_ok-offset-3.ensures in
-    let s = step s c.in_ok-offset-4.ensures in
-    leave s _ _ c.from_residual-in_err-offset-5.ensures.1 c.in_err-offset-5.ensures
+pub loop-tag-preserved : goal.loop-tag-preserved
+loop-tag-preserved c =
+    (walks_on _ c.loop-tag.tag-index _ c.loop-tag.invariant.0 (omega arith) c.in_ok-offset-2.ensures, field_ends _ _ _ _ _ c.in_ok-offset-2.ensures)
 
 pub returns-then-offset-bytes : goal.returns-then-offset-bytes
-returns-then-offset-bytes c =
-    let s = begin c.args.bytes.now _ _ c.place_count-places.ensures.count c.road_count-roads.ensures.count in
-    let s = step s c.in_ok-offset.ensures in
-    let s = step s c.in_ok-offset-2.ensures in
-    let s = step s c.in_ok-offset-3.ensures in
-    let s = step s c.in_ok-offset-4.ensures in
-    let s = step s c.in_ok-offset-5.ensures in
-    goes_past s c.if-offset-bytes.true
+returns-then-offset-bytes c = goes_past _ c.loop-tag.tag-index c.loop-tag.invariant.0 (omega arith) c.if-offset-bytes.true
+
+pub invariant_of-result : goal.invariant_of-result
+invariant_of-result c = record { whole = all_there _ (done _ c.loop-tag.tag-index c.loop-tag.invariant.0 (omega arith) c.if-offset-bytes.false) }
 
 pub returns : goal.returns
-returns c =
-    let s = begin c.args.bytes.now _ _ c.place_count-places.ensures.count c.road_count-roads.ensures.count in
-    let s = step s c.in_ok-offset.ensures in
-    let s = step s c.in_ok-offset-2.ensures in
-    let s = step s c.in_ok-offset-3.ensures in
-    let s = step s c.in_ok-offset-4.ensures in
-    let s = step s c.in_ok-offset-5.ensures in
-    ends s c.if-offset-bytes.false
+returns c = (done _ c.loop-tag.tag-index c.loop-tag.invariant.0 (omega arith) c.if-offset-bytes.false, refl)

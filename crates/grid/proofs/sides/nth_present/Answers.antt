@@ -1,23 +1,17 @@
-use Rattle.std.proofs.Common.{◌≡◌, length, sym, ◌∙◌, arith, rules}
-use Rattle.std.proofs.lemmas.List.{drop_all}
-use Rattle.grid.proofs.Listing.{here, over, past, nth_none}
+use Rattle.std.proofs.Common.{◌≡◌, ℕ, Option, rules}
+use Rattle.std.specs.Array.Iter.{array_steps, array_into_iter_items}
+use Rattle.std.specs.Option.{option_map, option_to_list}
+use Rattle.std.proofs.lemmas.Iterator.Consumers.{YieldsList-from_shown, YieldsList-at, nth_from_yields_List}
+use Rattle.std.proofs.lemmas.Iterator.Adapters.{YieldsList-from_once, YieldsList-from_flatten}
+use Rattle.grid.proofs.Listing.{nth_flat}
 use Rattle.grid.proofs.sides.nth_present.Goals as goal
-use Rattle.grid.proofs.sides.nth_present.Goals.{in-Some+else-left-eq0, in_default}
-
-pub returns-then-left-eq0 : goal.returns-then-left-eq0
-returns-then-left-eq0 c =
-    sym (here c.args.numbers c.loop-number.number-index c.loop-number.left c.in-Some.r c.in-Some.is c.if-left-eq0.true) ∙ c.loop-number.invariant
-
-pub loop-number-preserved : goal.loop-number-preserved
-loop-number-preserved c = elim c.match-number.branch [
-  | in-Some+else-left-eq0 w ↦ rw w.left-is
-      (sym (over c.args.numbers c.loop-number.number-index c.loop-number.left w.in-Some.r w.in-Some.is w.if-left-eq0.false) ∙ c.loop-number.invariant)
-  | in_default w ↦ rw w.left-is
-      (sym (past c.args.numbers c.loop-number.number-index c.loop-number.left w.in_default.is) ∙ c.loop-number.invariant)
-]
 
 pub returns : goal.returns
 returns c =
-    let h : length c.args.numbers ≡ 4 = search rules in
-    let e = drop_all c.loop-number.number-index c.args.numbers (omega arith) in
-    sym (nth_none c.loop-number.left) ∙ rw e at c.loop-number.invariant
+    let numbered : c.map.result ≡ option_map (λ r. record { 0 = r }) c.nth.result = search rules in
+    let source = YieldsList-at c.flatten.ensures.source
+    (YieldsList-from_shown array_steps (λ (x : Option ℕ). x) array_into_iter_items (λ s t h. h.0) (λ s x t e. e) c.into_iter.result) in
+    let chain = YieldsList-from_flatten _ _ (λ (x : ℕ). x) option_to_list (λ x j b. YieldsList-from_once x b.0)
+    source c.flatten.ensures.front c.flatten.ensures.back c.flatten.ensures.done in
+    let found = nth_from_yields_List c.nth.result c.nth.new.self c.args.j c.nth.ensures.ran chain in
+    nth_flat c.args.numbers c.args.j c.nth.result c.map.result (rw c.into_iter.ensures.into_iter_gives.0 at found) numbered
