@@ -14,7 +14,7 @@ use crate::answers::{Answer, Found};
 use fringe::fringes::Fringe;
 use fringe::order::Order;
 use fringe::place::Place;
-use halves::blank;
+use halves::wipe;
 use map::maps::Map;
 use measure::measures::Measure;
 use routes::labels::Label;
@@ -64,10 +64,8 @@ pub fn ask<M: Measure + Copy, G: Map, B: Map, F: Fringe<M>, N: Fringe<M>>(
 {
     let found = search(asked, fore, near, back, far);
     let way = tell(asked.map, fore, back, found, list);
-    blank(fore);
-    blank(back);
-    near.clear();
-    far.clear();
+    wipe(fore, near);
+    wipe(back, far);
     Answer {
         found: way,
         expanded: found.expanded,

@@ -65,7 +65,7 @@ module _ {C T : Type 0} (thing : C → T) (leq : T → T → Bool) (cost : C) wh
     }
 
 module _ {C T : Type 0} (thing : C → T) (leq : T → T → Bool) (n : ℕ) where
-  blank_spot : (v : ℕ) → spot (replicate {A = Label C} n Blank) v ≡ Blank
+  pub blank_spot : (v : ℕ) → spot (replicate {A = Label C} n Blank) v ≡ Blank
   blank_spot v = ⊎_elim (λ h. get_or-replicate n v Blank Blank h)
       (λ h. get_or_past (replicate n Blank) v Blank (omega (arith, h, length-replicate {A = Label C} n Blank))) (cases_lt v n)
 

@@ -5,3 +5,4 @@ pub mod Expansions
 pub mod Meetings
 pub mod Views
 pub mod Sides
+pub mod Beginnings

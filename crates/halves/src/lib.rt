@@ -9,7 +9,7 @@ pub mod relaxing;
 pub mod rows;
 pub mod settling;
 
-pub use beginning::begin;
+pub use beginning::{begin, reach, wipe};
 pub use expanding::expand;
 pub use meetings::best_meeting;
 pub use origins::start_of;

@@ -1,11 +1,10 @@
 -- A row reached place by place.
-use Rattle.std.proofs.Common.{◌≡◌, ℕ, ◌+◌, ◌<◌, ◌≤◌, Bool, true, false, List, length, set, replicate, Result, sym, ap, ◌∙◌, subst, ⊎_elim, arith, length-set, get_or-set_other, get_or-set_same}
+use Rattle.std.proofs.Common.{◌≡◌, ℕ, ◌+◌, ◌<◌, ◌≤◌, Bool, true, false, List, length, set, replicate, sym, ap, ◌∙◌, subst, ⊎_elim, arith, length-set, get_or-set_other, get_or-set_same}
 use lib.ListN.{length-replicate}
 use Rattle.std.proofs.lemmas.List.{get_or_past, get_or-replicate}
 use Rattle.std.proofs.lemmas.Bool.{cases_eq, cases_lt, cond-true, cond-false, le-ltb}
 use Rattle.std.specs.Option.{option_map}
-use Rattle.fringe.specs.declared.fringes.Refusal.{Refusal}
-use Rattle.fringe.specs.Fringes.{Meaning, Put, Emptied, lowered}
+use Rattle.fringe.specs.Fringes.{Meaning, Emptied}
 use Rattle.map.specs.Model.{MapModel, is_in}
 use Rattle.routes.specs.declared.labels.Origin.TheVariants.{Start}
 use Rattle.routes.specs.declared.labels.Label.{Label}
@@ -13,8 +12,8 @@ use Rattle.routes.specs.declared.labels.Label.TheVariants.{Blank, Reached}
 use Rattle.halves.specs.Labels.{spot}
 use Rattle.routes.specs.Parts.{waiting}
 use Rattle.halves.specs.Agreement.{Agree, Steady}
-use Rattle.halves.proofs.Alikes.{lowered_like}
-use Rattle.preparing.specs.Beginnings.{first_label, Sown, ReachedAt}
+use Rattle.preparing.specs.Beginnings.{first_label, Sown}
+use Rattle.halves.specs.Beginnings.{ReachedAt}
 
 -- a row of blank labels
 pub blank_spot : {C : Type 0} (n v : ℕ) → spot (replicate {A = Label C} n Blank) v ≡ Blank
@@ -28,26 +27,6 @@ module _ {C T : Type 0} (thing : C → T) (leq : T → T → Bool) where
     fits = let s = e.same_capacity in let k = length-replicate {A = Label C} n Blank in omega arith;
     holds = λ v. ap (option_map thing) (e.empty v) ∙ sym (ap (λ x. option_map thing (waiting x)) (blank_spot n v));
   }
-
-  -- a blank place is reached
-  module _ (labels : List (Label C)) (i v : ℕ) (c : C) (e : i ≡ v) (inside : i < length labels) where
-    abbrev next : List (Label C)
-    next = set labels i (Reached c Start)
-
-    here : spot next v ≡ Reached c Start
-    here = subst (λ k. spot next k ≡ Reached c Start) e (get_or-set_same labels i (Reached c Start) Blank inside)
-
-    pub reach_agrees : {W W' : Type 0} {m m' : Meaning C} {r : Result Unit Refusal} → spot labels v ≡ Blank → Agree thing leq W m labels → Put thing leq m m' v c r → W' → Agree thing leq W' m' next
-    reach_agrees {m} {m'} was a put w = record {
-      in_order = w;
-      fits = let f = a.fits in let s = put.same_capacity in let l = length-set labels i (Reached c Start) in omega arith;
-      holds = λ q. ⊎_elim
-          (λ (s : q ≡ v). subst (λ k. option_map thing (m'.held k) ≡ option_map thing (waiting (spot next k))) (sym s)
-          (put.here (let f = a.fits in omega arith) ∙ lowered_like thing leq c (m.held v) (waiting (spot labels v)) (a.holds v)
-          ∙ ap (λ l. option_map thing (lowered thing leq (waiting l) c)) was ∙ sym (ap (λ l. option_map thing (waiting l)) here)))
-          (λ n. put.elsewhere q n ∙ a.holds q ∙ sym (ap (λ l. option_map thing (waiting l)) (get_or-set_other labels i q (Reached c Start) Blank (λ s. n (s ∙ e)))))
-          (cases_eq q v);
-    }
 
 -- what holds once the places below i were looked at
 module _ {C T F : Type 0} (thing : C → T) (leq : T → T → Bool) (well : F → Type 0) (meaning : F → Meaning C) (m : MapModel) (d : ℕ) (nil : C) (n : ℕ) (f₀ : F) where

@@ -12,11 +12,11 @@ mod rooting;
 mod spreading;
 
 pub use beginning::begin;
-use beginning::wipe;
 use filling::fill;
 use fringe::fringes::Fringe;
 use fringe::order::Order;
 use fringe::place::Place;
+use halves::wipe;
 use map::maps::Map;
 use map::numbers::District;
 use measure::measures::Measure;

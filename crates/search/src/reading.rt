@@ -52,26 +52,26 @@ fn between<M: Measure + Copy>(way: Way, pairs: bool, entry: Option<Entry>) -> Be
     }
 }
 
-impl<'a, B: Map> Guide<'a, B> {
-    /// The district of a place. One that the base map does not have counts as the side's own.
-    fn district(&self, u: Place) -> District
-        ensures { u.0 < (B.Map.model self.now.base.now).places → result.0 ≡ (B.Map.model self.now.base.now).district u.0 }
-    {
-        self.base.district(u).unwrap_or(self.home)
-    }
+/// The district of a place. One that the base map does not have counts as of the first.
+pub fn district_of<B: Map>(base: &B, place: Place) -> District
+    ensures { place.0 < (B.Map.model base.now).places → result.0 ≡ (B.Map.model base.now).district place.0 }
+{
+    base.district(place).unwrap_or(District(0))
+}
 
+impl<'a, B: Map> Guide<'a, B> {
     /// Whether a place is a border place of the side's own district.
     pub fn is_gate(&self, u: Place) -> bool
         ensures { u.0 < (B.Map.model self.now.base.now).places → result ≡ is_gate (B.Map.model self.now.base.now) self.now.home.0 u.0 }
     {
-        is_border(self.base, u) && self.district(u) == self.home
+        is_border(self.base, u) && district_of(self.base, u) == self.home
     }
 
     /// What the table says between the district of a place and the other side's.
     pub fn ahead<M: Measure + Copy>(&self, u: Place) -> Between<M>
         ensures { u.0 < (B.Map.model self.now.base.now).places → Reads M.Measure.nil M.Measure.decoded self.now.way self.now.pairs (entry_ahead self.now.way self.now.table.now ((B.Map.model self.now.base.now).district u.0) self.now.away.0) result }
     {
-        let here = self.district(u);
+        let here = district_of(self.base, u);
         between(
             self.way,
             self.pairs,

@@ -10,12 +10,12 @@ ghost use Rattle.measure.specs.Members.{Lawful};
 ghost use Rattle.search.specs.Members.{AskedIn, ended};
 
 use crate::guides::{Guide, Question, Way};
+use crate::reading::district_of;
 use crate::running::run;
 use fringe::fringes::Fringe;
 use fringe::place::Place;
 use halves::begin;
 use map::maps::Map;
-use map::numbers::District;
 use measure::measures::Measure;
 use routes::labels::Label;
 use turns::Findings;
@@ -41,13 +41,6 @@ fn outset<M: Measure + Copy>(start: Place, goal: Place) -> Findings<M>
 }
 
 impl<'a, G: Map, B: Map> Question<'a, G, B> {
-    /// The district of a place. One that the base map does not have counts as of the first.
-    fn district(&self, place: Place) -> District
-        ensures { place.0 < (B.Map.model self.now.base.now).places → result.0 ≡ (B.Map.model self.now.base.now).district place.0 }
-    {
-        self.base.district(place).unwrap_or(District(0))
-    }
-
     /// What the side from the start goes by.
     fn along(&self) -> Guide<B>
         ensures { GuideOf Forward (B.Map.model self.now.base.now) self.now.base.now self.now.table.now self.now.pairs self.now.start.0 self.now.goal.0 result }
@@ -70,8 +63,8 @@ impl<'a, G: Map, B: Map> Question<'a, G, B> {
             base: self.base,
             table: self.table,
             pairs: self.pairs,
-            home: self.district(from),
-            away: self.district(to),
+            home: district_of(self.base, from),
+            away: district_of(self.base, to),
             way,
         }
     }

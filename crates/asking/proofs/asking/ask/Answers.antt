@@ -7,12 +7,12 @@ use Rattle.asking.proofs.asking.ask.Goals as goal
 
 pub returns : goal.returns
 returns g c = record {
-  fore = c.blank.ensures ∙ ap (λ n. replicate n Blank) c.search-found.auto.fore;
-  back = c.blank-2.ensures ∙ ap (λ n. replicate n Blank) c.search-found.auto.back;
-  near = record { same_capacity = c.clear.ensures.emptied.same_capacity ∙ c.search-found.ensures.near.same_capacity; empty = c.clear.ensures.emptied.empty };
-  near_well = c.clear.ensures.well;
-  far = record { same_capacity = c.clear-2.ensures.emptied.same_capacity ∙ c.search-found.ensures.far.same_capacity; empty = c.clear-2.ensures.emptied.empty };
-  far_well = c.clear-2.ensures.well;
+  fore = c.wipe.ensures.labels ∙ ap (λ n. replicate n Blank) c.search-found.auto.fore;
+  back = c.wipe-2.ensures.labels ∙ ap (λ n. replicate n Blank) c.search-found.auto.back;
+  near = record { same_capacity = c.wipe.ensures.emptied.same_capacity ∙ c.search-found.ensures.near.same_capacity; empty = c.wipe.ensures.emptied.empty };
+  near_well = c.wipe.ensures.well;
+  far = record { same_capacity = c.wipe-2.ensures.emptied.same_capacity ∙ c.search-found.ensures.far.same_capacity; empty = c.wipe-2.ensures.emptied.empty };
+  far_well = c.wipe-2.ensures.well;
   laws = c.search-found.ensures.laws;
   answer = λ a room.
       let o = g.M.Order in

@@ -2,8 +2,9 @@ use Rattle.std.proofs.Common.{set, sym, refl, ap, arith}
 use lib.Seq.{set_out}
 use Rattle.routes.specs.declared.labels.Origin.TheVariants.{Start}
 use Rattle.routes.specs.declared.labels.Label.TheVariants.{Reached}
-use Rattle.preparing.proofs.Sowing.{reach_agrees}
-use Rattle.preparing.proofs.beginning.reach.Goals as goal
+use Rattle.halves.specs.Labels.{improves}
+use Rattle.halves.proofs.Offers.{offer_agrees}
+use Rattle.halves.proofs.beginning.reach.Goals as goal
 
 pub returns-then-i-labels : goal.returns-then-i-labels
 returns-then-i-labels g c =
@@ -12,8 +13,8 @@ returns-then-i-labels g c =
     record {
       reached = record {
         labels = ap (λ k. set labels k (Reached c.args.cost Start)) c.from-i.ensures;
-        agree = λ was a. reach_agrees o.thing o.leq labels c.from-i.result c.args.place.0 c.args.cost c.from-i.ensures (omega arith) was a
-            (c.put.ensures.put a.in_order) (c.put.ensures.well a.in_order);
+        agree = λ was a. offer_agrees o.thing o.leq c.args.cost Start labels c.from-i.result c.args.place.0 c.from-i.ensures (omega arith)
+            (ap (improves o.thing o.leq c.args.cost) was) a (c.put.ensures.put a.in_order) (c.put.ensures.well a.in_order);
       };
       steady = λ w. record { in_order = c.put.ensures.well w; same_capacity = (c.put.ensures.put w).same_capacity };
     }
