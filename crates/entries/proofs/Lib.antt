@@ -1,3 +1,3 @@
-pub mod Figures
 pub mod Lists
+pub mod Places
 pub mod Readings
