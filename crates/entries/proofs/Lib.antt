@@ -1,3 +1,3 @@
+pub mod Changes
 pub mod Lists
-pub mod Places
 pub mod Readings

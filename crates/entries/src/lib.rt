@@ -8,7 +8,7 @@ pub mod slowdown;
 pub mod slowed;
 pub mod tables;
 
-pub use entry::Entry;
+pub use entry::{Entry, Places};
 pub use refusals::Refusal;
 pub use slowdown::Slowdown;
 pub use tables::{ClosedRoads, Entries, SlowedRoads};

@@ -3,47 +3,49 @@ ghost use Rattle.std.specs.Prelude.{◌≡◌, ℕ, ◌<◌, true, [], length, i
 ghost use Rattle.entries.specs.Entries.{entry_for, Found, Put, Lost};
 ghost use Rattle.entries.specs.Answers.{put_answer, remove_answer};
 
-use crate::entry::Entry;
+use crate::entry::{Entry, Places};
 use crate::refusals::Refusal;
 use crate::slowdown::Slowdown;
 use map::numbers::RoadId;
-use std::marker::Model;
+use std::marker::{Model, PhantomData};
 
 /// How many entries a table has room for.
 pub const ROOM: usize = 64;
 
-/// Up to 64 entries, no two of them for one road. The first `len` places are in use.
+/// Up to 64 entries, no two of them for one road. The first `len` of its places are in use.
 #[derive(Drop)]
-pub struct Entries<E: Entry> {
-    entries: [E; 64],
+pub struct Entries<E: Entry, A: Places<E>> {
+    places: A,
     len: usize,
+    of: PhantomData<E>,
 }
 
 /// Up to 64 different roads.
-pub type ClosedRoads = Entries<RoadId>;
+pub type ClosedRoads = Entries<RoadId, [RoadId; 64]>;
 
 /// Up to 64 different roads with a figure of at most 60,000 seconds each.
-pub type SlowedRoads = Entries<Slowdown>;
+pub type SlowedRoads = Entries<Slowdown, [Slowdown; 64]>;
 
-impl<E: Entry> Model for Entries<E> {
+impl<E: Entry, A: Places<E>> Model for Entries<E, A> {
     ghost use Rattle.std.specs.Prelude.{List, take};
     ghost use Rattle.entries.specs.Entries.{Tidy};
 
     ghost Value = { List E };
 
-    ghost view = { λ t. take t.len t.entries };
+    ghost view = { λ t. take t.len (A.Places.items t.places) };
 
-    ghost invariant = { λ t. Tidy E.Entry.road t.len t.entries };
+    ghost invariant = { λ t. Tidy E.Entry.road t.len (A.Places.items t.places) };
 }
 
-impl<E: Entry> Entries<E> {
+impl<E: Entry, A: Places<E>> Entries<E, A> {
     /// No entries.
     pub fn new() -> Self
         ensures { result ≡ [] }
     {
         Entries {
-            entries: [E::blank(); 64],
+            places: A::blank(),
             len: 0,
+            of: PhantomData,
         }
     }
 
@@ -93,7 +95,7 @@ impl<E: Entry> Entries<E> {
     fn used(&self) -> &[E]
         ensures { result.now ≡ self.now }
     {
-        &self.entries[..self.len]
+        &self.places.as_slice()[..self.len]
     }
 
     /// Where the entry of a road stands.
@@ -110,7 +112,7 @@ impl<E: Entry> Entries<E> {
         requires room { length self.old < 64 }
         ensures { Put E.Entry.road self.old self.new entry }
     {
-        self.entries[self.len] = entry;
+        self.places.place(self.len, entry);
         self.len += 1;
     }
 
@@ -120,8 +122,7 @@ impl<E: Entry> Entries<E> {
         ensures answer { result ≡ E.Entry.again }
         ensures after { MatchResult result (λ _. Put E.Entry.road self.old self.new entry) (λ _. self.new ≡ self.old) }
     {
-        prove!(i < self.len);
-        self.entries[i].renew(entry)
+        self.places.renew(i, entry)
     }
 
     /// Frees an entry: the last one moves into it.
@@ -130,7 +131,8 @@ impl<E: Entry> Entries<E> {
         ensures { (r : ℕ) → Found E.Entry.road self.old r (Some i) → Lost E.Entry.road self.old self.new r }
     {
         self.len -= 1;
-        self.entries[i] = self.entries[self.len];
+        let last = self.places.as_slice()[self.len];
+        self.places.place(i, last);
     }
 }
 

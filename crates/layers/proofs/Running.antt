@@ -9,15 +9,15 @@ use Rattle.layers.specs.Histories.{further, history_of, ByHistory}
 use Rattle.layers.specs.Layers.{Left, answer_by}
 use Rattle.layers.specs.Rules.{Rules}
 
-module _ {E C V G : Type 0} (road_of : E → ℕ) (again : Result Unit Refusal) (k : Rules E C V) (f : G → MapModel) where
+module _ {E C V G A : Type 0} (road_of : E → ℕ) (again : Result Unit Refusal) (k : Rules E C V) (f : G → MapModel) where
   -- after the first i calls the layer c, which was `was`, is as its history says, over the same map
-  pub record Going (was : Layer G E) (calls : List C) (i : ℕ) (c : Layer G E) : Type 0 where
+  pub record Going (was : Layer G E A) (calls : List C) (i : ℕ) (c : Layer G E A) : Type 0 where
     pub same : c.below ≡ was.below
     pub left : (h : List C) → Left road_of k h was.roads → Left road_of k (history_of (answer_by again k (f was.below)) h (take i calls)) c.roads
 
-  pub going_more : (was : Layer G E) (calls : List C) (i : ℕ) (before after : Layer G E) (call : C) (a : Result Unit Refusal) →
+  pub going_more : (was : Layer G E A) (calls : List C) (i : ℕ) (before after : Layer G E A) (call : C) (a : Result Unit Refusal) →
       Going was calls i before → i < length calls → call ≡ get_or calls i call → after.below ≡ before.below →
-      ((h : List C) → Left road_of k h before.roads → ByHistory (answer_by again k (f before.below)) (λ h (l : Layer G E). Left road_of k h l.roads) h call a after) →
+      ((h : List C) → Left road_of k h before.roads → ByHistory (answer_by again k (f before.below)) (λ h (l : Layer G E A). Left road_of k h l.roads) h call a after) →
       Going was calls (i + 1) after
   going_more was calls i before after call a g l is s by =
       let answer = answer_by again k (f was.below) in
@@ -32,6 +32,6 @@ module _ {E C V G : Type 0} (road_of : E → ℕ) (again : Result Unit Refusal) 
             subst (λ (x : List C). Left road_of k x after.roads) now b.left;
       }
 
-  pub gone : (was : Layer G E) (calls : List C) (i : ℕ) (c : Layer G E) → length calls ≤ i → Going was calls i c →
+  pub gone : (was : Layer G E A) (calls : List C) (i : ℕ) (c : Layer G E A) → length calls ≤ i → Going was calls i c →
       (h : List C) → Left road_of k h was.roads → Left road_of k (history_of (answer_by again k (f was.below)) h calls) c.roads
   gone was calls i c l g h w = subst (λ xs. Left road_of k (history_of (answer_by again k (f was.below)) h xs) c.roads) (take_all i calls l) (g.left h w)

@@ -52,7 +52,7 @@ module _ {E C V : Type 0} (road_of : E → ℕ) (again : Result Unit Refusal) (k
         (counted (is_some (entry_for road_of before (k.named call))) (length after) (length before) (g.count ∙ ap (λ r. length before + cond (is_some (entry_for road_of before r)) 0 1) own))
 
   -- ---- a call on a road that the map below has
-  module _ {G : Type 0} (m : MapModel) (w : WellFormed m) (call : C) (there : is_some (m.road (k.named call)) ≡ true) (before : Layer G E) (t : List E) where
+  module _ {G A : Type 0} (m : MapModel) (w : WellFormed m) (call : C) (there : is_some (m.road (k.named call)) ≡ true) (before : Layer G E A) (t : List E) where
     on : (o : Option Road) (a : Result Unit Refusal) → is_some o ≡ true → on_road o a ≡ a
     on (Some x) a e = refl
     on None a e = absurd (false≢true e)
@@ -62,10 +62,10 @@ module _ {E C V : Type 0} (road_of : E → ℕ) (again : Result Unit Refusal) (k
     numbered (Some x) is e = omega (arith, (w.road_fits (k.named call) x is).numbered, w.few_roads)
     numbered None is e = absurd (false≢true e)
 
-    abbrev layer : Layer G E
+    abbrev layer : Layer G E A
     layer = record { below = before.below; roads = t }
 
-    change_is : (P : Type 0) (a : Result Unit Refusal) → MatchResult a (λ _. P) (λ _. t ≡ before.roads) → MatchResult a (λ _. P) (λ _. ◌≡◌ {A = Layer G E} layer before)
+    change_is : (P : Type 0) (a : Result Unit Refusal) → MatchResult a (λ _. P) (λ _. t ≡ before.roads) → MatchResult a (λ _. P) (λ _. ◌≡◌ {A = Layer G E A} layer before)
     change_is P (Ok u) c = c
     change_is P (Err r) c = ap (λ (s : List E). record { below = before.below; roads = s }) c
 

@@ -40,7 +40,7 @@ closure_rules = record { shows = is_some; counted = λ closed. closed; reads = s
 -- ---- what its history makes of it
 -- A layer of closures over a map of the type G.
 abbrev pub Closures : Type 0 → Type 0
-Closures G = Layer G RoadId
+Closures G = Layer G RoadId (List RoadId)
 
 -- Whether the road r is closed: the last accepted close or open of it was a close.
 abbrev pub closed_by : List ClosureCall → ℕ → Bool

@@ -48,7 +48,7 @@ answer_by again k m h call = on_road (m.road (k.named call)) (table_answer again
 
 -- A call on a layer over a map that means m. An accepted one gives its road the entry, and a refused one changes nothing
 -- at all.
-pub record Called {E C V G : Type 0} (road_of : E → ℕ) (again : Result Unit Refusal) (k : Rules E C V) (m : MapModel) (call : C) (before after : Layer G E) (a : Result Unit Refusal) : Type 0 where
+pub record Called {E C V G A : Type 0} (road_of : E → ℕ) (again : Result Unit Refusal) (k : Rules E C V) (m : MapModel) (call : C) (before after : Layer G E A) (a : Result Unit Refusal) : Type 0 where
   pub answer : a ≡ on_road (m.road (k.named call)) (table_answer again (k.entry_of call) (is_some (entry_for road_of before.roads (k.named call))) (length before.roads))
   pub change : MatchResult a (λ _. Given road_of (k.entry_of call) (k.named call) before.roads after.roads) (λ _. after ≡ before)
   pub below : after.below ≡ before.below

@@ -47,7 +47,7 @@ slowdown_rules = record { shows = option_map (λ e. e.seconds); counted = is_som
 -- ---- what its history makes of it
 -- A layer of slowdowns over a map of the type G.
 abbrev pub Slowdowns : Type 0 → Type 0
-Slowdowns G = Layer G Slowdown
+Slowdowns G = Layer G Slowdown (List Slowdown)
 
 -- The figure of the road r: that of its last accepted slow, if no accepted clear of it came later.
 abbrev pub figure_by : List SlowdownCall → ℕ → Option ℕ

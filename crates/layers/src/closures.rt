@@ -10,7 +10,7 @@ use map::numbers::RoadId;
 use map::roads::{Mark, Road};
 
 /// A layer that reads up to 64 roads as closed.
-pub type Closures<G> = Layer<G, RoadId>;
+pub type Closures<G> = Layer<G, RoadId, [RoadId; 64]>;
 
 impl Kind for RoadId {
     ghost use Rattle.std.specs.Prelude.{◌≡◌, Bool, is_some};

@@ -7,7 +7,7 @@ ghost use Rattle.layers.specs.Histories.{history_of};
 ghost use Rattle.layers.specs.Layers.{Left, Called, count_by, said_by, answer_by};
 
 use crate::kinds::Kind;
-use entries::entry::Entry;
+use entries::entry::{Entry, Places};
 use entries::refusals::Refusal;
 use entries::tables::Entries;
 use fringe::place::Place;
@@ -19,12 +19,12 @@ use map::roads::Road;
 ///
 /// The map below may change beneath the layer, as where it is a layer itself.
 #[derive(Drop)]
-pub struct Layer<G, E: Entry> {
+pub struct Layer<G, E: Entry, A: Places<E>> {
     pub below: G,
-    roads: Entries<E>,
+    roads: Entries<E, A>,
 }
 
-impl<G, E: Kind> Layer<G, E> {
+impl<G, E: Kind, A: Places<E>> Layer<G, E, A> {
     /// A layer without entries.
     pub fn new(below: G) -> Self
         ensures below { result.below ≡ below }
@@ -46,7 +46,7 @@ impl<G, E: Kind> Layer<G, E> {
     }
 }
 
-impl<G: Map, E: Kind> Layer<G, E> {
+impl<G: Map, E: Kind, A: Places<E>> Layer<G, E, A> {
     /// Performs a call.
     pub(crate) fn call(&mut self, call: E::Call) -> Result<(), Refusal>
         ensures { Called E.Entry.road E.Entry.again E.Kind.rules (G.Map.model self.old.below) call self.old self.new result }
@@ -90,13 +90,13 @@ impl<G: Map, E: Kind> Layer<G, E> {
 }
 
 /// No entries: what a history without calls leaves.
-fn no_entries<E: Kind>() -> Entries<E>
+fn no_entries<E: Kind, A: Places<E>>() -> Entries<E, A>
     ensures { Left E.Entry.road E.Kind.rules [] result }
 {
     Entries::new()
 }
 
-impl<G: Map, E: Kind> Map for Layer<G, E> {
+impl<G: Map, E: Kind, A: Places<E>> Map for Layer<G, E, A> {
     ghost model = { λ c. through (λ r. E.Kind.rules.reads (E.Kind.rules.shows (entry_for E.Entry.road c.roads r))) (G.Map.model c.below) };
 
     ghost sound = { λ c. E.Kind.well (entry_for E.Entry.road c.roads) (G.Map.model c.below) (G.Map.sound c.below) };

@@ -11,7 +11,7 @@ use map::numbers::RoadId;
 use map::roads::Road;
 
 /// A layer in which up to 64 roads have a figure and take at least that many seconds.
-pub type Slowdowns<G> = Layer<G, Slowdown>;
+pub type Slowdowns<G> = Layer<G, Slowdown, [Slowdown; 64]>;
 
 impl Kind for Slowdown {
     ghost use Rattle.std.specs.Prelude.{◌≡◌, ℕ, Option};

@@ -1,5 +1,5 @@
 use Rattle.std.proofs.Common.{◌≡◌, eqb, position, ap, ◌∙◌}
-use Rattle.entries.proofs.Places.{found, own}
+use Rattle.entries.proofs.Changes.{found, own}
 use Rattle.entries.proofs.tables.Entries.position.Goals as goal
 
 pub returns : goal.returns

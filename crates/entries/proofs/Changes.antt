@@ -2,7 +2,7 @@
 use Rattle.std.proofs.Common.{◌≡◌, ℕ, ◌+◌, ◌<◌, ◌≤◌, eqb, ltb, List, [], ◌∷◌, ◌++◌, length, get_or, take, set, position, is_some, Some, None, Ok, Err, Option, Result, sym, ap, ◌∙◌, subst, inl, inr, arith, MatchResult}
 use Rattle.std.specs.List.{position_or_len}
 use Rattle.std.proofs.lemmas.Bool.{cases_Bool, cases_lt, eqb-true, ltb-true, ltb-false}
-use Rattle.std.proofs.lemmas.List.{get_or-take, length-set, length-take-le, set_past, set-get_or, take-set-le, take_more, take_more_set}
+use Rattle.std.proofs.lemmas.List.{get_or-take, length-set, length-take-le, set_past, take-set-le, take_more, take_more_set}
 use Rattle.std.proofs.Math.Seq.{take-set-lt}
 use Rattle.std.proofs.lemmas.List.Folds.{find_at}
 use Rattle.std.proofs.lemmas.List.Quantifiers.{position-Some}
@@ -65,21 +65,18 @@ module _ {X : Type 0} (road_of : X → ℕ) (places : List X) (n : ℕ) (tidy : 
     put_rewritten = subst (λ l. Put road_of es l x) (sym now) (put_set road_of es i x within same apart)
 
   -- or refuses to be
-  module _ (i : ℕ) (d x e : X) (within : i < length es) (same : (z : X) → road_of (get_or es i z) ≡ road_of e) where
-    pub stood : road_of (get_or places i d) ≡ road_of e
-    stood = ap road_of (sym (get_or-take n places i d (omega (arith, many))) ∙ ap (λ l. get_or l i d) view) ∙ same d
+  module _ (i : ℕ) (e : X) (within : i < length es) (same : (z : X) → road_of (get_or es i z) ≡ road_of e) where
+    pub stood : (d : X) → road_of (get_or places i d) ≡ road_of e
+    stood d = ap road_of (sym (get_or-take n places i d (omega (arith, many))) ∙ ap (λ l. get_or l i d) view) ∙ same d
 
-    stays : x ≡ get_or places i d → set places i x ≡ places
-    stays k = ap (set places i) k ∙ set-get_or places i d
+    pub tidy_renewed : {R : Type 0} (a : Result Unit R) (ys : List X) → MatchResult a (λ _. ys ≡ set places i e) (λ _. ys ≡ places) → Tidy road_of n ys
+    tidy_renewed (Ok u) ys k = subst (Tidy road_of n) (sym k) (tidy_rewritten i e within same)
+    tidy_renewed (Err r) ys k = subst (Tidy road_of n) (sym k) tidy
 
-    pub tidy_renewed : {R : Type 0} (a : Result Unit R) → MatchResult a (λ _. x ≡ e) (λ _. x ≡ get_or places i d) → Tidy road_of n (set places i x)
-    tidy_renewed (Ok u) k = subst (λ z. Tidy road_of n (set places i z)) (sym k) (tidy_rewritten i e within same)
-    tidy_renewed (Err r) k = subst (Tidy road_of n) (sym (stays k)) tidy
-
-    pub put_renewed : {R : Type 0} (a : Result Unit R) → MatchResult a (λ _. x ≡ e) (λ _. x ≡ get_or places i d) →
-        MatchResult a (λ _. Put road_of es (take n (set places i x)) e) (λ _. take n (set places i x) ≡ es)
-    put_renewed (Ok u) k = subst (λ z. Put road_of es (take n (set places i z)) e) (sym k) (put_rewritten i e within same)
-    put_renewed (Err r) k = ap (take n) (stays k) ∙ view
+    pub put_renewed : {R : Type 0} (a : Result Unit R) (ys : List X) → MatchResult a (λ _. ys ≡ set places i e) (λ _. ys ≡ places) →
+        MatchResult a (λ _. Put road_of es (take n ys) e) (λ _. take n ys ≡ es)
+    put_renewed (Ok u) ys k = subst (λ l. Put road_of es (take n l) e) (sym k) (put_rewritten i e within same)
+    put_renewed (Err r) ys k = ap (take n) k ∙ view
 
   -- there is one more entry
   module _ (x : X) (free : entry_for road_of es (road_of x) ≡ None) (room : n < 64) where
