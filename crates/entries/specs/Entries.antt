@@ -20,6 +20,11 @@ Found {X} road_of es r (Some i) = (i < length es) × ((d : X) → road_of (slice
 abbrev pub Apart : {X : Type 0} → (X → ℕ) → List X → Type 0
 Apart road_of es = AllPairs (λ x y. road_of x ≢ road_of y) es
 
+-- What holds of the entries of every table: there are up to 64, and no two of them are for one road.
+pub record Limited {X : Type 0} (road_of : X → ℕ) (es : List X) : Type 0 where
+  pub few : length es ≤ 64
+  pub distinct : Apart road_of es
+
 -- The first `len` of 64 places are in use, by entries of which no two are for one road.
 pub record Tidy {X : Type 0} (road_of : X → ℕ) (len : ℕ) (entries : List X) : Type 0 where
   pub wide : length entries ≡ 64

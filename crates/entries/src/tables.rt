@@ -1,6 +1,6 @@
 //! Tables of entries.
 ghost use Rattle.std.specs.Prelude.{◌≡◌, ℕ, ◌<◌, true, [], length, is_some, None, Some, MatchResult, ◌==◌, position};
-ghost use Rattle.entries.specs.Entries.{entry_for, Found, Put, Lost};
+ghost use Rattle.entries.specs.Entries.{entry_for, Found, Limited, Put, Lost};
 ghost use Rattle.entries.specs.Answers.{put_answer, remove_answer};
 
 use crate::entry::{Entry, Places};
@@ -54,6 +54,7 @@ impl<E: Entry, A: Places<E>> Entries<E, A> {
     pub fn is_empty(&self) -> bool
         ensures count { result ≡ (length self.now == 0) }
         ensures none { result ≡ true → (q : ℕ) → entry_for E.Entry.road self.now q ≡ None }
+        ensures limits { Limited E.Entry.road self.now }
     {
         self.len == 0
     }

@@ -2,7 +2,7 @@
 ghost use Rattle.std.specs.Prelude.{◌≡◌, ℕ, true, List, [], length, is_some, None, ◌==◌};
 ghost use Rattle.std.specs.Option.{option_map};
 ghost use Rattle.map.specs.Through.{through};
-ghost use Rattle.entries.specs.Entries.{entry_for};
+ghost use Rattle.entries.specs.Entries.{entry_for, Limited};
 ghost use Rattle.layers.specs.Histories.{history_of};
 ghost use Rattle.layers.specs.Layers.{Left, Called, count_by, said_by, answer_by};
 
@@ -40,6 +40,7 @@ impl<G, E: Kind, A: Places<E>> Layer<G, E, A> {
     pub fn is_empty(&self) -> bool
         ensures count { result ≡ (length self.now.roads == 0) }
         ensures none { result ≡ true → (q : ℕ) → entry_for E.Entry.road self.now.roads q ≡ None }
+        ensures limits { Limited E.Entry.road self.now.roads }
         ensures history { (h : List E.Call) → Left E.Entry.road E.Kind.rules h self.now.roads → result ≡ (count_by E.Kind.rules h == 0) }
     {
         self.roads.is_empty()
@@ -51,9 +52,9 @@ impl<G: Map, E: Kind, A: Places<E>> Layer<G, E, A> {
     pub(crate) fn call(&mut self, call: E::Call) -> Result<(), Refusal>
         ensures { Called E.Entry.road E.Entry.again E.Kind.rules (G.Map.model self.old.below) call self.old self.new result }
     {
-        if self.below.road(E::road_named(call)).is_none() {
-            return Err(Refusal::NoSuchRoad);
-        }
+        self.below
+            .road(E::road_named(call))
+            .ok_or(Refusal::NoSuchRoad)?;
         self.change(call)
     }
 
