@@ -41,23 +41,27 @@ take_set xs k i x l = elim (cases_lt i k) [
   | inr le ↦ take-set-le k xs i x le ∙ sym (set_past (take k xs) i x (omega (arith, length-take-le k xs l)))
 ]
 
--- a table with n of its places in use, by the entries es
-module _ {X : Type 0} (road_of : X → ℕ) (places : List X) (n : ℕ) (tidy : Tidy road_of n places) (es : List X) (view : take n places ≡ es) where
+-- the first n places of a table are in use, by the entries es
+pub record InUse {X : Type 0} (road_of : X → ℕ) (places : List X) (n : ℕ) (es : List X) : Type 0 where
+  pub tidy : Tidy road_of n places
+  pub view : take n places ≡ es
+
+module _ {X : Type 0} {road_of : X → ℕ} {places : List X} {n : ℕ} {es : List X} (u : InUse road_of places n es) where
   pub apart : Apart road_of es
-  apart = subst (Apart road_of) view tidy.distinct
+  apart = subst (Apart road_of) u.view u.tidy.distinct
 
   pub many : length es ≡ n
-  many = sym (ap length view) ∙ length-take-le n places (omega (arith, tidy.few, tidy.wide))
+  many = sym (ap length u.view) ∙ length-take-le n places (omega (arith, u.tidy.few, u.tidy.wide))
 
   -- the entry at i is rewritten
   module _ (i : ℕ) (x : X) (within : i < length es) (same : (d : X) → road_of (get_or es i d) ≡ road_of x) where
     now : take n (set places i x) ≡ set es i x
-    now = take_set places n i x (omega (arith, tidy.few, tidy.wide)) ∙ ap (λ l. set l i x) view
+    now = take_set places n i x (omega (arith, u.tidy.few, u.tidy.wide)) ∙ ap (λ l. set l i x) u.view
 
     tidy_rewritten : Tidy road_of n (set places i x)
     tidy_rewritten = record {
-      wide = simp length-set tidy.wide;
-      few = tidy.few;
+      wide = simp length-set u.tidy.wide;
+      few = u.tidy.few;
       distinct = subst (Apart road_of) (sym now) (apart_set road_of es i x within same apart);
     }
 
@@ -67,25 +71,25 @@ module _ {X : Type 0} (road_of : X → ℕ) (places : List X) (n : ℕ) (tidy : 
   -- or refuses to be
   module _ (i : ℕ) (e : X) (within : i < length es) (same : (z : X) → road_of (get_or es i z) ≡ road_of e) where
     pub stood : (d : X) → road_of (get_or places i d) ≡ road_of e
-    stood d = ap road_of (sym (get_or-take n places i d (omega (arith, many))) ∙ ap (λ l. get_or l i d) view) ∙ same d
+    stood d = ap road_of (sym (get_or-take n places i d (omega (arith, many))) ∙ ap (λ l. get_or l i d) u.view) ∙ same d
 
     pub tidy_renewed : {R : Type 0} (a : Result Unit R) (ys : List X) → MatchResult a (λ _. ys ≡ set places i e) (λ _. ys ≡ places) → Tidy road_of n ys
-    tidy_renewed (Ok u) ys k = subst (Tidy road_of n) (sym k) (tidy_rewritten i e within same)
-    tidy_renewed (Err r) ys k = subst (Tidy road_of n) (sym k) tidy
+    tidy_renewed (Ok _) ys k = subst (Tidy road_of n) (sym k) (tidy_rewritten i e within same)
+    tidy_renewed (Err _) ys k = subst (Tidy road_of n) (sym k) u.tidy
 
     pub put_renewed : {R : Type 0} (a : Result Unit R) (ys : List X) → MatchResult a (λ _. ys ≡ set places i e) (λ _. ys ≡ places) →
         MatchResult a (λ _. Put road_of es (take n ys) e) (λ _. take n ys ≡ es)
-    put_renewed (Ok u) ys k = subst (λ l. Put road_of es (take n l) e) (sym k) (put_rewritten i e within same)
-    put_renewed (Err r) ys k = ap (take n) k ∙ view
+    put_renewed (Ok _) ys k = subst (λ l. Put road_of es (take n l) e) (sym k) (put_rewritten i e within same)
+    put_renewed (Err _) ys k = ap (take n) k ∙ u.view
 
   -- there is one more entry
   module _ (x : X) (free : entry_for road_of es (road_of x) ≡ None) (room : n < 64) where
     grown : take (n + 1) (set places n x) ≡ es ++ x ∷ []
-    grown = take_more_set places n x (omega (arith, tidy.wide)) ∙ ap (λ l. l ++ x ∷ []) view
+    grown = take_more_set places n x (omega (arith, u.tidy.wide)) ∙ ap (λ l. l ++ x ∷ []) u.view
 
     pub tidy_pushed : Tidy road_of (n + 1) (set places n x)
     tidy_pushed = record {
-      wide = simp length-set tidy.wide;
+      wide = simp length-set u.tidy.wide;
       few = omega arith;
       distinct = subst (Apart road_of) (sym grown) (apart_push road_of es x free apart);
     }
@@ -99,18 +103,18 @@ module _ {X : Type 0} (road_of : X → ℕ) (places : List X) (n : ℕ) (tidy : 
     last = get_or places k d
 
     cut : take k places ++ last ∷ [] ≡ es
-    cut = sym (take_more places k d (omega (arith, tidy.few, tidy.wide))) ∙ ap (λ m. take m places) (sym one) ∙ view
+    cut = sym (take_more places k d (omega (arith, u.tidy.few, u.tidy.wide))) ∙ ap (λ m. take m places) (sym one) ∙ u.view
 
     left : take k (set places i last) ≡ set (take k places) i last
-    left = take_set places k i last (omega (arith, tidy.few, tidy.wide))
+    left = take_set places k i last (omega (arith, u.tidy.few, u.tidy.wide))
 
     low : i ≤ length (take k places)
-    low = omega (arith, many, length-take-le k places (omega (arith, tidy.few, tidy.wide)))
+    low = omega (arith, many, length-take-le k places (omega (arith, u.tidy.few, u.tidy.wide)))
 
     pub tidy_freed : Tidy road_of k (set places i last)
     tidy_freed = record {
-      wide = simp length-set tidy.wide;
-      few = omega (arith, tidy.few);
+      wide = simp length-set u.tidy.wide;
+      few = omega (arith, u.tidy.few);
       distinct = subst (Apart road_of) (sym left) (apart_moved road_of (take k places) i last low (subst (Apart road_of) (sym cut) apart));
     }
 
