@@ -3,6 +3,7 @@ ghost use Rattle.std.specs.Prelude.{◌≡◌, ℕ, ◌<◌, List, length, Resul
 ghost use Rattle.entries.specs.declared.refusals.Refusal.{Refusal};
 
 use crate::refusals::Refusal;
+use crate::tables::ROOM;
 use map::numbers::RoadId;
 
 /// An entry of a table, for one road.
@@ -49,11 +50,11 @@ pub trait Places<E: Entry>: Copy {
         ensures after { (d : E) → i < length (items self.old) → E.Entry.road (slice_index_or (items self.old) i d) ≡ E.Entry.road entry → MatchResult result (λ _. items self.new ≡ slice_set (items self.old) i entry) (λ _. items self.new ≡ items self.old) };
 }
 
-impl<E: Entry> Places<E> for [E; 64] {
+impl<E: Entry> Places<E> for [E; ROOM] {
     ghost items = { λ places. places };
 
     fn blank() -> Self {
-        [E::blank(); 64]
+        [E::blank(); ROOM]
     }
 
     fn as_slice(&self) -> &[E] {
@@ -61,13 +62,13 @@ impl<E: Entry> Places<E> for [E; 64] {
     }
 
     fn place(&mut self, i: usize, entry: E) {
-        if i < 64 {
+        if i < ROOM {
             self[i] = entry;
         }
     }
 
     fn renew(&mut self, i: usize, entry: E) -> Result<(), Refusal> {
-        if i < 64 {
+        if i < ROOM {
             self[i].renew(entry)
         } else {
             Err(Refusal::NoEntry)

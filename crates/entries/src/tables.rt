@@ -21,10 +21,10 @@ pub struct Entries<E: Entry, A: Places<E>> {
 }
 
 /// Up to 64 different roads.
-pub type ClosedRoads = Entries<RoadId, [RoadId; 64]>;
+pub type ClosedRoads = Entries<RoadId, [RoadId; ROOM]>;
 
 /// Up to 64 different roads with a figure of at most 60,000 seconds each.
-pub type SlowedRoads = Entries<Slowdown, [Slowdown; 64]>;
+pub type SlowedRoads = Entries<Slowdown, [Slowdown; ROOM]>;
 
 impl<E: Entry, A: Places<E>> Model for Entries<E, A> {
     ghost use Rattle.std.specs.Prelude.{List, take};

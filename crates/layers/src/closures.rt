@@ -5,12 +5,13 @@ use crate::calls::ClosureCall;
 use crate::kinds::Kind;
 use crate::layer::Layer;
 use entries::refusals::Refusal;
+use entries::tables::ROOM;
 use map::maps::Map;
 use map::numbers::RoadId;
 use map::roads::{Mark, Road};
 
 /// A layer that reads up to 64 roads as closed.
-pub type Closures<G> = Layer<G, RoadId, [RoadId; 64]>;
+pub type Closures<G> = Layer<G, RoadId, [RoadId; ROOM]>;
 
 impl Kind for RoadId {
     ghost use Rattle.std.specs.Prelude.{◌≡◌, Bool, is_some};

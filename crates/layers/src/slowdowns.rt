@@ -6,12 +6,13 @@ use crate::kinds::Kind;
 use crate::layer::Layer;
 use entries::refusals::Refusal;
 use entries::slowdown::Slowdown;
+use entries::tables::ROOM;
 use map::maps::Map;
 use map::numbers::RoadId;
 use map::roads::Road;
 
 /// A layer in which up to 64 roads have a figure and take at least that many seconds.
-pub type Slowdowns<G> = Layer<G, Slowdown, [Slowdown; 64]>;
+pub type Slowdowns<G> = Layer<G, Slowdown, [Slowdown; ROOM]>;
 
 impl Kind for Slowdown {
     ghost use Rattle.std.specs.Prelude.{◌≡◌, ℕ, Option};
