@@ -1,3 +1,3 @@
-pub mod Figures
+pub mod Changes
 pub mod Lists
 pub mod Readings

@@ -1,240 +1,162 @@
--- What becomes of a list of entries when one is added at its end, rewritten, or taken out by moving the last into its place.
-use Rattle.std.proofs.Common.{◌≡◌, ℕ, zero, suc, ◌+◌, ◌<◌, ◌≤◌, true, false, cond, not, ◌||◌, eqb, List, [], ◌∷◌, ◌++◌, length, get_or, take, set, is_some, Some, None, Option, sym, refl, ap, ◌∙◌, subst, inl, inr, arith}
-use Rattle.std.proofs.lemmas.Bool.{true≢false, eq-eqb, ne_eqb, eqb-true, and_parts, and_from, or_from, or_parts, or_right, cases_Bool, not-true, not_from_false}
-use Rattle.std.proofs.lemmas.List.{length_push, take_more, take_more_set, get_or_default, length-take-le, take_all}
+-- Lists of entries, no two of them for one road: what a road finds there after one entry is added, rewritten or taken out.
+use Rattle.std.proofs.Common.{◌≡◌, ℕ, zero, suc, ◌+◌, ◌<◌, ◌≤◌, ◌≢◌, Bool, true, false, cond, eqb, List, [], ◌∷◌, ◌++◌, length, get_or, set, find, Some, None, Option, ◌⊎◌, sym, refl, ap, ◌∙◌, subst, inl, inr, arith, length-append}
+use Rattle.std.specs.List.{Any, list_any}
+use Rattle.std.specs.Option.{option_or}
+use Rattle.std.proofs.Math.ListN.{get_or-append}
+use Rattle.std.proofs.Math.Seq.{get_or-append_seam}
+use Rattle.std.proofs.lemmas.Bool.{cases_Bool, cases_eq, cases_order, eq-eqb, ne_eqb, eqb-true, eqb-false, true≢false}
 use Rattle.std.proofs.lemmas.Bool.Decides.{nat_tests}
-use Rattle.entries.specs.Entries.{has, entry_for, apart, Found}
+use Rattle.std.proofs.lemmas.List.{length-set, get_or-set_same, get_or-set_other}
+use Rattle.std.proofs.lemmas.List.Folds.{find-append, find_past, Any-from_list_any, list_any_at}
+use Rattle.std.proofs.lemmas.List.Quantifiers.{all_pairs_push}
+use Rattle.std.proofs.lemmas.Option.{none-some}
+use Rattle.entries.specs.Entries.{entry_for, Apart, Put, Lost}
+
+-- ---- searches
+module _ {X : Type 0} (p : X → Bool) where
+  find_none : (xs : List X) → ((j : ℕ) (d : X) → j < length xs → p (get_or xs j d) ≡ false) → find p xs ≡ None
+  find_none [] h = refl
+  find_none (x ∷ xs) h = rw (h 0 x (omega arith)) (find_none xs (λ j d l. h (suc j) d (omega arith)))
+
+  find_only : (xs : List X) (i : ℕ) (d : X) → i < length xs → p (get_or xs i d) ≡ true →
+      ((j : ℕ) → j < length xs → p (get_or xs j d) ≡ true → j ≡ i) → find p xs ≡ Some (get_or xs i d)
+  find_only [] i d l at only = let no' : ⊥ = omega arith in absurd no'
+  find_only (x ∷ xs) zero d l at only = rw at
+  find_only (x ∷ xs) (suc i) d l at only = elim (cases_Bool (p x)) [
+    | inl t ↦ let z : 0 ≡ suc i = only 0 (omega arith) t in let no' : ⊥ = omega arith in absurd no'
+    | inr f ↦ rw f (find_only xs i d (omega arith) at (λ j m e. let k : suc j ≡ suc i = only (suc j) (omega arith) e in omega arith))
+  ]
+
+  -- either none passes or some one does
+  sought : (xs : List X) → ((j : ℕ) (d : X) → j < length xs → p (get_or xs j d) ≡ false) ⊎ Any (λ x. p x ≡ true) xs
+  sought xs = elim (cases_Bool (list_any p xs)) [
+    | inl t ↦ inr (Any-from_list_any p xs t)
+    | inr f ↦ inl (λ j d l. elim (cases_Bool (p (get_or xs j d))) [
+      | inl t ↦ absurd (true≢false (sym (list_any_at p xs j d l t) ∙ f))
+      | inr g ↦ g
+    ])
+  ]
+
+or_none : {X : Type 0} (o : Option X) → option_or o None ≡ o
+or_none None = refl
+or_none (Some x) = refl
 
 module _ {X : Type 0} (road_of : X → ℕ) where
-  -- a road has an entry exactly where one is found for it
-  pub some_has : (es : List X) (q : ℕ) → is_some (entry_for road_of es q) ≡ has road_of es q
-  some_has [] q = refl
-  some_has (x ∷ es) q =
-      elim (eqb (road_of x) q) as (λ b. is_some (cond b (Some x) (entry_for road_of es q)) ≡ (b || has road_of es q))
-      [ true ↦ refl | false ↦ some_has es q ]
+  -- whether an entry is for the road q
+  abbrev is_for : ℕ → X → Bool
+  is_for q x = eqb (road_of x) q
+
+  -- a road has one place only
+  once : (es : List X) (i j : ℕ) (d : X) → Apart road_of es → i < length es → j < length es → road_of (get_or es i d) ≡ road_of (get_or es j d) → i ≡ j
+  once es i j d a l m e = elim (cases_order i j) [
+    | inl same ↦ same
+    | inr o ↦ elim o [ inl lt ↦ absurd (a i j d lt m e) | inr gt ↦ absurd (a j i d gt l (sym e)) ]
+  ]
+
+  pub reads_at : (es : List X) (i q : ℕ) (d : X) → Apart road_of es → i < length es → road_of (get_or es i d) ≡ q → entry_for road_of es q ≡ Some (get_or es i d)
+  unfolding entry_for
+  reads_at es i q d a l e = find_only (is_for q) es i d l (eq-eqb _ _ e) (λ j m t. once es j i d a m l (eqb-true _ _ t ∙ sym e))
 
   -- ---- one more entry at the end
-  has_push : (es : List X) (x : X) (q : ℕ) → has road_of (es ++ x ∷ []) q ≡ (has road_of es q || eqb (road_of x) q)
-  has_push [] x q = elim (eqb (road_of x) q) as (λ b. (b || false) ≡ b) [ true ↦ refl | false ↦ refl ]
-  has_push (y ∷ es) x q = elim (eqb (road_of y) q) as (λ b. (b || has road_of (es ++ x ∷ []) q) ≡ ((b || has road_of es q) || eqb (road_of x) q))
-      [ true ↦ refl | false ↦ has_push es x q ]
+  module _ (es : List X) (x : X) (free : entry_for road_of es (road_of x) ≡ None) where
+    pub apart_push : Apart road_of es → Apart road_of (es ++ x ∷ [])
+    apart_push a = all_pairs_push (λ y z. road_of y ≢ road_of z) es x a (λ k d l e. none-some (get_or es k d) (sym free ∙ reads_at es k (road_of x) d a l e))
 
-  pub entry_push : (es : List X) (x : X) (q : ℕ) → has road_of es (road_of x) ≡ false →
-      entry_for road_of (es ++ x ∷ []) q ≡ cond (eqb (road_of x) q) (Some x) (entry_for road_of es q)
-  entry_push [] x q h = refl
-  entry_push (y ∷ es) x q h =
-      let p = or_parts (eqb (road_of y) (road_of x)) (has road_of es (road_of x)) h in
-      let rest = entry_push es x q p.1 in
-      elim (cases_Bool (eqb (road_of x) q)) [
-        | inl t ↦ let n : eqb (road_of y) q ≡ false = grind (arith, nat_tests) in rw (n, rest, t)
-        | inr t ↦ rw (rest, t)
-      ]
-
-  pub apart_push : (es : List X) (x : X) → has road_of es (road_of x) ≡ false → apart road_of es ≡ true → apart road_of (es ++ x ∷ []) ≡ true
-  apart_push [] x h a = refl
-  apart_push (y ∷ es) x h a =
-      let p = or_parts (eqb (road_of y) (road_of x)) (has road_of es (road_of x)) h in
-      let b = and_parts (not (has road_of es (road_of y))) (apart road_of es) a in
-      let n : eqb (road_of x) (road_of y) ≡ false = grind (arith, nat_tests) in
-      let k : has road_of (es ++ x ∷ []) (road_of y) ≡ false = has_push es x (road_of y) ∙ or_from _ _ (not-true _ b.0) n in
-      and_from _ _ (not_from_false _ k) (apart_push es x p.1 b.1)
-
-  -- ---- an entry that stands in the list
-  pub has_at : (es : List X) (i q : ℕ) (d : X) → i < length es → road_of (get_or es i d) ≡ q → has road_of es q ≡ true
-  has_at [] i q d l e = let no' : ⊥ = omega arith in absurd no'
-  has_at (x ∷ es) zero q d l e = let t = eq-eqb (road_of x) q e in rw t
-  has_at (x ∷ es) (suc i) q d l e = or_right _ _ (has_at es i q d (omega arith) e)
-
-  -- a road with an entry differs from one without
-  differ : (es : List X) (r : ℕ) (x : X) (q : ℕ) → has road_of es r ≡ true → has road_of es (road_of x) ≡ false → eqb r q ≡ true → eqb (road_of x) q ≡ false
-  differ es r x q here away t = ne_eqb (road_of x) q (λ k.
-      let s : road_of x ≡ r = k ∙ sym (eqb-true r q t) in true≢false (sym here ∙ ap (has road_of es) (sym s) ∙ away))
-
-  pub none_for : (es : List X) (q : ℕ) → has road_of es q ≡ false → entry_for road_of es q ≡ None
-  none_for [] q h = refl
-  none_for (x ∷ es) q h =
-      let p = or_parts (eqb (road_of x) q) (has road_of es q) h in
-      rw p.0 (none_for es q p.1)
-
-  pub entry_at : (es : List X) (i q : ℕ) (d : X) → i < length es → ((z : X) → road_of (get_or es i z) ≡ q) → apart road_of es ≡ true →
-      entry_for road_of es q ≡ Some (get_or es i d)
-  entry_at [] i q d l e a = let no' : ⊥ = omega arith in absurd no'
-  entry_at (x ∷ es) zero q d l e a = let t = eq-eqb (road_of x) q (e x) in rw t
-  entry_at (x ∷ es) (suc i) q d l e a =
-      let b = and_parts (not (has road_of es (road_of x))) (apart road_of es) a in
-      let here = has_at es i q x (omega arith) (e x) in
-      let n = differ es q x q here (not-true _ b.0) (eq-eqb q q refl) in
-      rw n (entry_at es i q d (omega arith) e b.1)
+    pub put_push : Put road_of es (es ++ x ∷ []) x
+    unfolding entry_for
+    put_push = record {
+      reads = λ q. find-append (is_for q) es (x ∷ []) ∙ elim (cases_Bool (is_for q x)) [
+        | inl t ↦ let none : find (is_for q) es ≡ None = ap (entry_for road_of es) (sym (eqb-true (road_of x) q t)) ∙ free in rw (none, t)
+        | inr f ↦ rw f (or_none (find (is_for q) es))
+      ];
+      count = rw free (length-append es (x ∷ []));
+      elsewhere = λ i d l n. get_or-append es (x ∷ []) d i l;
+    }
 
   -- ---- an entry rewritten for the same road
-  has_set : (es : List X) (i : ℕ) (x : X) (q : ℕ) → ((d : X) → road_of (get_or es i d) ≡ road_of x) → has road_of (set es i x) q ≡ has road_of es q
-  has_set [] i x q e = refl
-  has_set (y ∷ es) zero x q e = ap (λ n. eqb n q || has road_of es q) (sym (e y))
-  has_set (y ∷ es) (suc i) x q e = ap (λ b. eqb (road_of y) q || b) (has_set es i x q e)
+  module _ (es : List X) (i : ℕ) (x : X) (within : i < length es) (same : (d : X) → road_of (get_or es i d) ≡ road_of x) where
+    kept : (j : ℕ) (d : X) → road_of (get_or (set es i x) j d) ≡ road_of (get_or es j d)
+    kept j d = elim (cases_eq j i) [
+      | inl e ↦ rw e (ap road_of (get_or-set_same es i x d within) ∙ sym (same d))
+      | inr n ↦ ap road_of (get_or-set_other es i j x d n)
+    ]
 
-  pub entry_set : (es : List X) (i : ℕ) (x : X) (q : ℕ) → i < length es → ((d : X) → road_of (get_or es i d) ≡ road_of x) → apart road_of es ≡ true →
-      entry_for road_of (set es i x) q ≡ cond (eqb (road_of x) q) (Some x) (entry_for road_of es q)
-  entry_set [] i x q l e a = let no' : ⊥ = omega arith in absurd no'
-  entry_set (y ∷ es) zero x q l e a = rw (e y)
-      (elim (eqb (road_of x) q) as (λ b. cond b (Some x) (entry_for road_of es q) ≡ cond b (Some x) (cond b (Some y) (entry_for road_of es q))) [ true ↦ refl | false ↦ refl ])
-  entry_set (y ∷ es) (suc i) x q l e a =
-      let b = and_parts (not (has road_of es (road_of y))) (apart road_of es) a in
-      let rest = entry_set es i x q (omega arith) e b.1 in
-      let here = has_at es i (road_of x) x (omega arith) (e x) in
-      let away = not-true _ b.0 in
-      elim (cases_Bool (eqb (road_of x) q)) [
-        | inl t ↦ let n : eqb (road_of y) q ≡ false = differ es (road_of x) y q here away t in rw (n, rest, t)
-        | inr t ↦ rw (rest, t)
-      ]
+    pub apart_set : Apart road_of es → Apart road_of (set es i x)
+    apart_set a j k d lt m e = a j k d lt (rw length-set at m) (sym (kept j d) ∙ e ∙ kept k d)
 
-  pub apart_set : (es : List X) (i : ℕ) (x : X) → ((d : X) → road_of (get_or es i d) ≡ road_of x) → apart road_of es ≡ true → apart road_of (set es i x) ≡ true
-  apart_set [] i x e a = a
-  apart_set (y ∷ es) zero x e a = rw (e y) at a
-  apart_set (y ∷ es) (suc i) x e a =
-      let b = and_parts (not (has road_of es (road_of y))) (apart road_of es) a in
-      and_from _ _ (ap not (has_set es i x (road_of y) e) ∙ b.0) (apart_set es i x e b.1)
+    pub put_set : Apart road_of es → Put road_of es (set es i x) x
+    unfolding entry_for
+    put_set a = record {
+      reads = λ q. elim (cases_Bool (is_for q x)) [
+        | inl t ↦ rw t (reads_at (set es i x) i q x (apart_set a) (rw length-set within) (kept i x ∙ same x ∙ eqb-true _ _ t) ∙ ap Some (get_or-set_same es i x x within))
+        | inr f ↦ rw f (find_past (is_for q) es i x x (ap (λ n. eqb n q) (same x) ∙ f) f)
+      ];
+      count = let there = reads_at es i (road_of x) x a within (same x) in rw (there, length-set) (omega arith);
+      elsewhere = λ j d l n. get_or-set_other es i j x d (λ e. n (ap (λ k. road_of (get_or es k d)) e ∙ same d));
+    }
 
-  -- ---- an entry taken out, and the last one moved into its place
-  apart_last : (es : List X) (y : X) → apart road_of (es ++ y ∷ []) ≡ true → has road_of es (road_of y) ≡ false
-  apart_last [] y a = refl
-  apart_last (x ∷ es) y a =
-      let b = and_parts (not (has road_of (es ++ y ∷ []) (road_of x))) (apart road_of (es ++ y ∷ [])) a in
-      let p = or_parts (has road_of es (road_of x)) (eqb (road_of y) (road_of x)) (sym (has_push es y (road_of x)) ∙ not-true _ b.0) in
-      let n : eqb (road_of x) (road_of y) ≡ false = grind (arith, nat_tests) in
-      or_from _ _ n (apart_last es y b.1)
+  -- ---- an entry taken out, and the last one, y, moved into its place
+  module _ (es : List X) (i : ℕ) (y : X) (within : i ≤ length es) (apart : Apart road_of (es ++ y ∷ [])) where
+    abbrev whole : List X
+    whole = es ++ y ∷ []
 
-  apart_front : (es : List X) (y : X) → apart road_of (es ++ y ∷ []) ≡ true → apart road_of es ≡ true
-  apart_front [] y a = refl
-  apart_front (x ∷ es) y a =
-      let b = and_parts (not (has road_of (es ++ y ∷ []) (road_of x))) (apart road_of (es ++ y ∷ [])) a in
-      let p = or_parts (has road_of es (road_of x)) (eqb (road_of y) (road_of x)) (sym (has_push es y (road_of x)) ∙ not-true _ b.0) in
-      and_from _ _ (not_from_false _ p.0) (apart_front es y b.1)
+    -- where the entry stood that stands at j now
+    abbrev from : ℕ → ℕ
+    from j = cond (eqb j i) (length es) j
 
-  has_moved : (es : List X) (i : ℕ) (y : X) (q : ℕ) → has road_of (es ++ y ∷ []) q ≡ false → has road_of (set es i y) q ≡ false
-  has_moved [] i y q h = refl
-  has_moved (x ∷ es) zero y q h =
-      let p = or_parts (eqb (road_of x) q) (has road_of (es ++ y ∷ []) q) h in
-      let b = or_parts (has road_of es q) (eqb (road_of y) q) (sym (has_push es y q) ∙ p.1) in
-      or_from _ _ b.1 b.0
-  has_moved (x ∷ es) (suc i) y q h =
-      let p = or_parts (eqb (road_of x) q) (has road_of (es ++ y ∷ []) q) h in
-      or_from _ _ p.0 (has_moved es i y q p.1)
+    moved : (j : ℕ) (d : X) → j < length es → get_or (set es i y) j d ≡ get_or whole (from j) d
+    moved j d l = elim (cases_Bool (eqb j i)) [
+      | inl t ↦ let e = eqb-true j i t in rw t (ap (λ k. get_or (set es i y) k d) e ∙ get_or-set_same es i y d (subst (λ k. k < length es) e l) ∙ sym (get_or-append_seam es y [] d))
+      | inr f ↦ rw f (get_or-set_other es i j y d (eqb-false j i f) ∙ sym (get_or-append es (y ∷ []) d j l))
+    ]
 
-  pub apart_moved : (es : List X) (i : ℕ) (y : X) → apart road_of (es ++ y ∷ []) ≡ true → apart road_of (set es i y) ≡ true
-  apart_moved [] i y a = refl
-  apart_moved (x ∷ es) zero y a =
-      let b = and_parts (not (has road_of (es ++ y ∷ []) (road_of x))) (apart road_of (es ++ y ∷ [])) a in
-      and_from _ _ (not_from_false _ (apart_last es y b.1)) (apart_front es y b.1)
-  apart_moved (x ∷ es) (suc i) y a =
-      let b = and_parts (not (has road_of (es ++ y ∷ []) (road_of x))) (apart road_of (es ++ y ∷ [])) a in
-      and_from _ _ (not_from_false _ (has_moved es i y (road_of x) (not-true _ b.0))) (apart_moved es i y b.1)
+    long : length whole ≡ length es + 1
+    long = length-append es (y ∷ [])
 
-  pub entry_moved : (es : List X) (i : ℕ) (y : X) (r q : ℕ) → i ≤ length es → ((d : X) → road_of (get_or (es ++ y ∷ []) i d) ≡ r) → apart road_of (es ++ y ∷ []) ≡ true →
-      entry_for road_of (set es i y) q ≡ cond (eqb r q) None (entry_for road_of (es ++ y ∷ []) q)
-  entry_moved [] zero y r q l e a = rw (e y) (elim (eqb r q) as (λ b. None ≡ cond b None (cond b (Some y) None)) [ true ↦ refl | false ↦ refl ])
-  entry_moved [] (suc i) y r q l e a = let no' : ⊥ = omega arith in absurd no'
-  entry_moved (x ∷ es) zero y r q l e a =
-      let b = and_parts (not (has road_of (es ++ y ∷ []) (road_of x))) (apart road_of (es ++ y ∷ [])) a in
-      let p = or_parts (has road_of es (road_of x)) (eqb (road_of y) (road_of x)) (sym (has_push es y (road_of x)) ∙ not-true _ b.0) in
-      let pushed = entry_push es y q (apart_last es y b.1) in
-      let s = e x in
-      elim (cases_Bool (eqb r q)) [
-        | inl t ↦
-            let k : road_of x ≡ q = s ∙ eqb-true r q t in
-            let away : eqb (road_of y) q ≡ false = rw k at p.1 in
-            let gone : has road_of es q ≡ false = rw k at p.0 in
-            rw (away, t) (none_for es q gone)
-        | inr t ↦
-            let n : eqb (road_of x) q ≡ false = ap (λ m. eqb m q) s ∙ t in
-            rw (t, n) (sym pushed)
-      ]
-  entry_moved (x ∷ es) (suc i) y r q l e a =
-      let b = and_parts (not (has road_of (es ++ y ∷ []) (road_of x))) (apart road_of (es ++ y ∷ [])) a in
-      let rest = entry_moved es i y r q (omega arith) e b.1 in
-      let here : has road_of (es ++ y ∷ []) r ≡ true = has_at (es ++ y ∷ []) i r y (rw (length_push es y) (omega arith)) (e y) in
-      elim (cases_Bool (eqb r q)) [
-        | inl t ↦ let n : eqb (road_of x) q ≡ false = differ (es ++ y ∷ []) r x q here (not-true _ b.0) t in rw (n, rest, t)
-        | inr t ↦ rw (rest, t)
-      ]
+    inside : (j : ℕ) → j < length es → from j < length whole
+    inside j l = elim (eqb j i) as (λ b. cond b (length es) j < length whole) [ true ↦ omega (arith, long) | false ↦ omega (arith, long) ]
 
-  -- ---- the same of a table: the first n of the places es are in use
-  take_set : (es : List X) (k i : ℕ) (x : X) → take k (set es i x) ≡ set (take k es) i x
-  take_set [] zero i x = refl
-  take_set [] (suc k) i x = refl
-  take_set (y ∷ es) zero i x = refl
-  take_set (y ∷ es) (suc k) zero x = refl
-  take_set (y ∷ es) (suc k) (suc i) x = ap (λ ys. y ∷ ys) (take_set es k i x)
+    -- all but the one at i stand somewhere, and no two in one place
+    away : (j : ℕ) → j < length es → from j ≢ i
+    away j l e = elim (cases_Bool (eqb j i)) [
+      | inl t ↦ let h = eqb-true j i t in let k : length es ≡ i = sym (ap (λ b. cond b (length es) j) t) ∙ e in let no' : ⊥ = omega arith in no'
+      | inr f ↦ eqb-false j i f (sym (ap (λ b. cond b (length es) j) f) ∙ e)
+    ]
 
-  module _ (es : List X) (n : ℕ) where
-    pub entry_added : (x : X) (q : ℕ) → n < length es → has road_of (take n es) (road_of x) ≡ false →
-        entry_for road_of (take (n + 1) (set es n x)) q ≡ cond (eqb (road_of x) q) (Some x) (entry_for road_of (take n es) q)
-    entry_added x q l h = ap (λ xs. entry_for road_of xs q) (take_more_set es n x l) ∙ entry_push (take n es) x q h
+    apart_from : (j k : ℕ) → j < length es → k < length es → j < k → from j ≢ from k
+    apart_from j k l n lt = grind (arith, nat_tests)
 
-    pub apart_added : (x : X) → n < length es → has road_of (take n es) (road_of x) ≡ false → apart road_of (take n es) ≡ true →
-        apart road_of (take (n + 1) (set es n x)) ≡ true
-    apart_added x l h a = ap (apart road_of) (take_more_set es n x l) ∙ apart_push (take n es) x h a
+    pub apart_moved : Apart road_of (set es i y)
+    apart_moved j k d lt m e =
+        let n : k < length es = rw length-set at m in
+        let l : j < length es = omega arith in
+        let one = once whole (from j) (from k) d apart (inside j l) (inside k n) (sym (ap road_of (moved j d l)) ∙ e ∙ ap road_of (moved k d n)) in
+        apart_from j k l n lt one
 
-    pub entry_rewritten : (i : ℕ) (x : X) (q : ℕ) → i < length (take n es) → ((d : X) → road_of (get_or (take n es) i d) ≡ road_of x) → apart road_of (take n es) ≡ true →
-        entry_for road_of (take n (set es i x)) q ≡ cond (eqb (road_of x) q) (Some x) (entry_for road_of (take n es) q)
-    entry_rewritten i x q l e a = ap (λ xs. entry_for road_of xs q) (take_set es n i x) ∙ entry_set (take n es) i x q l e a
+    -- where an entry stands now that stood at m
+    to : (m : ℕ) → m < length whole → m ≢ i → (j : ℕ) × (j < length es) × (from j ≡ m)
+    to m l n = elim (cases_eq m (length es)) [
+      | inl e ↦ (i, omega (arith, long), rw (eq-eqb i i refl) (sym e))
+      | inr k ↦ (m, omega (arith, long), rw (ne_eqb m i n))
+    ]
 
-    pub apart_rewritten : (i : ℕ) (x : X) → ((d : X) → road_of (get_or (take n es) i d) ≡ road_of x) → apart road_of (take n es) ≡ true →
-        apart road_of (take n (set es i x)) ≡ true
-    apart_rewritten i x e a = ap (apart road_of) (take_set es n i x) ∙ apart_set (take n es) i x e a
-
-    last : (k : ℕ) (d : X) → n ≡ k + 1 → k < length es → take n es ≡ take k es ++ get_or es k d ∷ []
-    last k d e l = ap (λ j. take j es) e ∙ take_more es k d l
-
-    pub entry_dropped : (k i : ℕ) (d : X) (r q : ℕ) → n ≡ k + 1 → k < length es → i ≤ k →
-        ((z : X) → road_of (get_or (take n es) i z) ≡ r) → apart road_of (take n es) ≡ true →
-        entry_for road_of (take k (set es i (get_or es k d))) q ≡ cond (eqb r q) None (entry_for road_of (take n es) q)
-    entry_dropped k i d r q e l at_most h a =
-        let whole = last k d e l in
-        let long : length (take k es) ≡ k = length-take-le k es (omega arith) in
-        ap (λ xs. entry_for road_of xs q) (take_set es k i (get_or es k d))
-        ∙ entry_moved (take k es) i (get_or es k d) r q (omega arith) (subst (λ xs. (z : X) → road_of (get_or xs i z) ≡ r) whole h) (sym (ap (apart road_of) whole) ∙ a)
-        ∙ ap (λ xs. cond (eqb r q) None (entry_for road_of xs q)) (sym whole)
-
-    pub apart_dropped : (k i : ℕ) (d : X) → n ≡ k + 1 → k < length es → apart road_of (take n es) ≡ true →
-        apart road_of (take k (set es i (get_or es k d))) ≡ true
-    apart_dropped k i d e l a =
-        ap (apart road_of) (take_set es k i (get_or es k d)) ∙ apart_moved (take k es) i (get_or es k d) (sym (ap (apart road_of) (last k d e l)) ∙ a)
-
-    pub has_added : (x : X) (q : ℕ) → n < length es → has road_of (take n es) (road_of x) ≡ false →
-        has road_of (take (n + 1) (set es n x)) q ≡ cond (eqb (road_of x) q) true (has road_of (take n es) q)
-    has_added x q l h =
-        sym (some_has (take (n + 1) (set es n x)) q) ∙ ap is_some (entry_added x q l h)
-        ∙ elim (eqb (road_of x) q) as (λ b. is_some (cond b (Some x) (entry_for road_of (take n es) q)) ≡ cond b true (has road_of (take n es) q))
-        [ true ↦ refl | false ↦ some_has (take n es) q ]
-
-    pub has_dropped : (k i : ℕ) (d : X) (r q : ℕ) → n ≡ k + 1 → k < length es → i ≤ k →
-        ((z : X) → road_of (get_or (take n es) i z) ≡ r) → apart road_of (take n es) ≡ true →
-        has road_of (take k (set es i (get_or es k d))) q ≡ cond (eqb r q) false (has road_of (take n es) q)
-    has_dropped k i d r q e l at_most h a =
-        sym (some_has (take k (set es i (get_or es k d))) q) ∙ ap is_some (entry_dropped k i d r q e l at_most h a)
-        ∙ elim (eqb r q) as (λ b. is_some (cond b None (entry_for road_of (take n es) q)) ≡ cond b false (has road_of (take n es) q))
-        [ true ↦ refl | false ↦ some_has (take n es) q ]
-
-  -- ---- a loop that looks for an entry, over a slice xs that holds the entries es
-  pub look_more : (es xs : List X) (i q : ℕ) (d : X) → xs ≡ es → i < length xs → has road_of (take i es) q ≡ false → (road_of (get_or xs i d) ≡ q → ⊥) →
-      has road_of (take (i + 1) es) q ≡ false
-  look_more es xs i q d e l h n =
-      let l' : i < length es = rw e at l in
-      ap (λ ys. has road_of ys q) (take_more es i d l') ∙ has_push (take i es) (get_or es i d) q
-      ∙ or_from _ _ h (ne_eqb _ _ (λ k. n (ap (λ ys. road_of (get_or ys i d)) e ∙ k)))
-
-  pub look_found : (es xs : List X) (i q : ℕ) (d : X) → xs ≡ es → i < length xs → road_of (get_or xs i d) ≡ q → Found road_of es q (Some i)
-  look_found es xs i q d e l h =
-      subst (λ ys. Found road_of ys q (Some i)) e (l, λ z. ap road_of (get_or_default xs i z d l) ∙ h)
-
-  pub look_none : (es xs : List X) (i q : ℕ) → xs ≡ es → length xs ≤ i → has road_of (take i es) q ≡ false → has road_of es q ≡ false
-  look_none es xs i q e l h = ap (λ ys. has road_of ys q) (sym (take_all i es (rw e at l))) ∙ h
-
-  -- a place among the entries in use is below their number
-  pub below_used : (es : List X) (n i : ℕ) → n ≤ length es → i < length (take n es) → i < n
-  below_used es n i l h = let long : length (take n es) ≡ n = length-take-le n es l in omega arith
-
-  pub found_has : (es : List X) (q : ℕ) (o : Option ℕ) → Found road_of es q o → is_some o ≡ has road_of es q
-  found_has es q None h = sym h
-  found_has [] q (Some i) h = let l = h.0 in let no' : ⊥ = omega arith in absurd no'
-  found_has (x ∷ es) q (Some i) h = sym (has_at (x ∷ es) i q x h.0 (h.1 x))
+    pub lost_moved : (r : ℕ) → ((d : X) → road_of (get_or whole i d) ≡ r) → Lost road_of whole (set es i y) r
+    unfolding entry_for
+    lost_moved r is = record {
+      there = rw (reads_at whole i r y apart (omega (arith, long)) (is y));
+      reads = λ q. elim (cases_Bool (eqb r q)) [
+        | inl t ↦ rw t (find_none (is_for q) (set es i y) (λ j d m. let l : j < length es = rw length-set at m in
+            ne_eqb _ _ (λ e. away j l (once whole (from j) i d apart (inside j l) (omega (arith, long)) (sym (ap road_of (moved j d l)) ∙ e ∙ sym (eqb-true r q t) ∙ sym (is d))))))
+        | inr f ↦ rw f (elim (sought (is_for q) whole) [
+          | inl none ↦ find_none (is_for q) (set es i y) (λ j d m. let l : j < length es = rw length-set at m in ap (is_for q) (moved j d l) ∙ none (from j) d (inside j l))
+              ∙ sym (find_none (is_for q) whole none)
+          | inr (m, x, l, at, p) ↦
+              let here : road_of (get_or whole m x) ≡ q = ap road_of at ∙ eqb-true _ _ p in
+              let now = to m l (λ e. eqb-false r q f (sym (is x) ∙ ap (λ k. road_of (get_or whole k x)) (sym e) ∙ here)) in
+              let stands : get_or (set es i y) now.0 x ≡ get_or whole m x = moved now.0 x now.1 ∙ ap (λ k. get_or whole k x) now.2 in
+              reads_at (set es i y) now.0 q x apart_moved (rw length-set now.1) (ap road_of stands ∙ here)
+              ∙ ap Some stands ∙ sym (reads_at whole m q x apart l here)
+        ])
+      ];
+      count = rw length-set (sym long);
+    }

@@ -1,17 +1,21 @@
 -- Entries with a figure.
-use Rattle.std.specs.Prelude.{ℕ, List, Option}
+use Rattle.std.specs.Prelude.{◌≡◌, ℕ, Bool, true, false, List, Ok, Err, Option, Result, nat_lt, refl}
 use Rattle.std.specs.Option.{option_map}
+use Rattle.std.proofs.Common.{ltb-false}
 use Rattle.map.specs.declared.numbers.RoadId.{RoadId}
+use Rattle.entries.specs.declared.refusals.Refusal.{Refusal}
+use Rattle.entries.specs.declared.refusals.Refusal.TheVariants.{TooSlow}
 use Rattle.entries.specs.declared.slowdown.Slowdown.{Slowdown}
 use Rattle.entries.specs.Entries.{entry_for}
 
--- The entry of a road and its figure.
-abbrev pub slowdown_of : RoadId → ℕ → Slowdown
-slowdown_of road seconds = record { road = road; seconds = seconds }
+-- The entry of a road and its figure, which is or is not over 60,000.
+abbrev pub slowdown_if : (road : RoadId) (seconds : ℕ) (over : Bool) → nat_lt 60000 seconds ≡ over → Result Slowdown Refusal
+slowdown_if road seconds true is = Err TooSlow
+slowdown_if road seconds false is = Ok (record { road = road; seconds = seconds; short = ltb-false _ _ is })
 
--- What is read where there is no entry.
-abbrev pub no_slowdown : Slowdown
-no_slowdown = slowdown_of (record { 0 = 0 }) 0
+-- The entry of a road and its figure, or the refusal of one over 60,000.
+abbrev pub slowdown : RoadId → ℕ → Result Slowdown Refusal
+slowdown road seconds = slowdown_if road seconds (nat_lt 60000 seconds) refl
 
 -- The road of an entry, by its number.
 abbrev pub slow_road : Slowdown → ℕ

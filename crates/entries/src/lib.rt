@@ -2,11 +2,13 @@
 #![tactic(auto)]
 
 pub mod closed;
+pub mod entry;
 pub mod refusals;
 pub mod slowdown;
 pub mod slowed;
 pub mod tables;
 
+pub use entry::{Entry, Places};
 pub use refusals::Refusal;
 pub use slowdown::Slowdown;
-pub use tables::{ClosedRoads, SlowedRoads};
+pub use tables::{ClosedRoads, Entries, SlowedRoads};

@@ -6,15 +6,15 @@ ghost use Rattle.entries.specs.Refusals.{number_of};
 #[derive(Clone, Copy, PartialEq, Eq, Debug)]
 pub enum Refusal {
     /// The map below has no road of that number.
-    NoSuchRoad,
+    NoSuchRoad = 11,
     /// The road is on the layer already.
-    AlreadyClosed,
+    AlreadyClosed = 12,
     /// The layer has no entry for the road.
-    NoEntry,
+    NoEntry = 13,
     /// The layer has 64 entries.
-    Full,
+    Full = 14,
     /// The figure is over 60,000 seconds.
-    TooSlow,
+    TooSlow = 15,
 }
 
 impl Refusal {
@@ -22,12 +22,6 @@ impl Refusal {
     pub fn number(self) -> u8
         ensures { result ≡ number_of self }
     {
-        match self {
-            Refusal::NoSuchRoad => 11,
-            Refusal::AlreadyClosed => 12,
-            Refusal::NoEntry => 13,
-            Refusal::Full => 14,
-            Refusal::TooSlow => 15,
-        }
+        self as u8
     }
 }

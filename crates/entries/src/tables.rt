@@ -1,34 +1,145 @@
-//! What the tables of a layer hold.
-ghost use Rattle.std.specs.Prelude.{◌≡◌, ℕ, ◌≤◌, true, length, take, Some};
-ghost use Rattle.entries.specs.Entries.{closed_road, apart};
-ghost use Rattle.entries.specs.Slowdowns.{slow_road, figure_in};
+//! Tables of entries.
+ghost use Rattle.std.specs.Prelude.{◌≡◌, ℕ, ◌<◌, true, [], length, is_some, None, Some, MatchResult, ◌==◌, position};
+ghost use Rattle.entries.specs.Entries.{entry_for, Found, Limited, Put, Lost};
+ghost use Rattle.entries.specs.Answers.{put_answer, remove_answer};
 
+use crate::entry::{Entry, Places};
+use crate::refusals::Refusal;
 use crate::slowdown::Slowdown;
 use map::numbers::RoadId;
+use std::marker::{Model, PhantomData};
 
 /// How many entries a table has room for.
 pub const ROOM: usize = 64;
 
-/// The longest that a road may take, in seconds.
-pub const LONGEST: u16 = 60_000;
-
-/// Up to 64 different roads. The first `len` entries are in use.
+/// Up to 64 entries, no two of them for one road. The first `len` of its places are in use.
 #[derive(Drop)]
-pub struct ClosedRoads {
-    pub(crate) entries: [RoadId; 64],
-    pub(crate) len: usize,
-    ghost wide: { length entries ≡ 64 },
-    ghost few: { len ≤ 64 },
-    ghost distinct: { apart closed_road (take len entries) ≡ true },
+pub struct Entries<E: Entry, A: Places<E>> {
+    places: A,
+    len: usize,
+    of: PhantomData<E>,
 }
 
-/// Up to 64 different roads with a figure of at most 60,000 seconds each. The first `len` entries are in use.
-#[derive(Drop)]
-pub struct SlowedRoads {
-    pub(crate) entries: [Slowdown; 64],
-    pub(crate) len: usize,
-    ghost wide: { length entries ≡ 64 },
-    ghost few: { len ≤ 64 },
-    ghost distinct: { apart slow_road (take len entries) ≡ true },
-    ghost short: { (r f : ℕ) → figure_in (take len entries) r ≡ Some f → f ≤ 60000 },
+/// Up to 64 different roads.
+pub type ClosedRoads = Entries<RoadId, [RoadId; ROOM]>;
+
+/// Up to 64 different roads with a figure of at most 60,000 seconds each.
+pub type SlowedRoads = Entries<Slowdown, [Slowdown; ROOM]>;
+
+impl<E: Entry, A: Places<E>> Model for Entries<E, A> {
+    ghost use Rattle.std.specs.Prelude.{List, take};
+    ghost use Rattle.entries.specs.Entries.{Tidy};
+
+    ghost Value = { List E };
+
+    ghost view = { λ t. take t.len (A.Places.items t.places) };
+
+    ghost invariant = { λ t. Tidy E.Entry.road t.len (A.Places.items t.places) };
+}
+
+impl<E: Entry, A: Places<E>> Entries<E, A> {
+    /// No entries.
+    pub fn new() -> Self
+        ensures { result ≡ [] }
+    {
+        Entries {
+            places: A::blank(),
+            len: 0,
+            of: PhantomData,
+        }
+    }
+
+    /// Whether the table has no entry.
+    #[tactic(auto, unfolding(crate::specs::Entries::entry_for))]
+    pub fn is_empty(&self) -> bool
+        ensures count { result ≡ (length self.now == 0) }
+        ensures none { result ≡ true → (q : ℕ) → entry_for E.Entry.road self.now q ≡ None }
+        ensures limits { Limited E.Entry.road self.now }
+    {
+        self.len == 0
+    }
+
+    /// The entry of a road.
+    #[tactic(auto, unfolding(crate::specs::Entries::entry_for))]
+    pub fn get(&self, road: RoadId) -> Option<E>
+        ensures { result ≡ entry_for E.Entry.road self.now road.0 }
+    {
+        self.used().iter().copied().find(|x| x.road() == road)
+    }
+
+    /// Enters a road, or, if it has an entry, does as such entries do.
+    pub fn put(&mut self, entry: E) -> Result<(), Refusal>
+        ensures answer { result ≡ put_answer E.Entry.again (is_some (entry_for E.Entry.road self.old (E.Entry.road entry))) (length self.old) }
+        ensures after { MatchResult result (λ _. Put E.Entry.road self.old self.new entry) (λ _. self.new ≡ self.old) }
+    {
+        if let Some(i) = self.position(entry.road()) {
+            return self.renew(i, entry);
+        }
+        if self.len >= ROOM {
+            return Err(Refusal::Full);
+        }
+        self.push(entry);
+        Ok(())
+    }
+
+    /// Takes a road off the table.
+    pub fn remove(&mut self, road: RoadId) -> Result<(), Refusal>
+        ensures answer { result ≡ remove_answer (is_some (entry_for E.Entry.road self.old road.0)) }
+        ensures after { MatchResult result (λ _. Lost E.Entry.road self.old self.new road.0) (λ _. self.new ≡ self.old) }
+    {
+        let i = self.position(road).ok_or(Refusal::NoEntry)?;
+        self.free(i);
+        Ok(())
+    }
+
+    /// The entries in use.
+    fn used(&self) -> &[E]
+        ensures { result.now ≡ self.now }
+    {
+        &self.places.as_slice()[..self.len]
+    }
+
+    /// Where the entry of a road stands.
+    fn position(&self, road: RoadId) -> Option<usize>
+        ensures found { Found E.Entry.road self.now road.0 result }
+        ensures own { is_some result ≡ is_some (entry_for E.Entry.road self.now road.0) }
+    {
+        first_for(self.used(), road)
+    }
+
+    /// Enters a road behind the last entry.
+    fn push(&mut self, entry: E)
+        requires fresh { entry_for E.Entry.road self.old (E.Entry.road entry) ≡ None }
+        requires room { length self.old < 64 }
+        ensures { Put E.Entry.road self.old self.new entry }
+    {
+        self.places.place(self.len, entry);
+        self.len += 1;
+    }
+
+    /// Puts an entry in the place of the one that its road has, if such an entry lets it.
+    fn renew(&mut self, i: usize, entry: E) -> Result<(), Refusal>
+        requires { Found E.Entry.road self.old (E.Entry.road entry) (Some i) }
+        ensures answer { result ≡ E.Entry.again }
+        ensures after { MatchResult result (λ _. Put E.Entry.road self.old self.new entry) (λ _. self.new ≡ self.old) }
+    {
+        self.places.renew(i, entry)
+    }
+
+    /// Frees an entry: the last one moves into it.
+    fn free(&mut self, i: usize)
+        requires { i < length self.old }
+        ensures { (r : ℕ) → Found E.Entry.road self.old r (Some i) → Lost E.Entry.road self.old self.new r }
+    {
+        self.len -= 1;
+        let last = self.places.as_slice()[self.len];
+        self.places.place(i, last);
+    }
+}
+
+/// Where the first entry for a road stands.
+fn first_for<E: Entry>(entries: &[E], road: RoadId) -> Option<usize>
+    ensures { result ≡ position (λ x. E.Entry.road x == road.0) entries.now }
+{
+    entries.iter().position(|x| x.road() == road)
 }

@@ -9,10 +9,8 @@ use Rattle.entries.specs.Readings.{slowed, slowing}
 use Rattle.entries.specs.Tables.{figure}
 use Rattle.layers.specs.declared.calls.ClosureCall.TheVariants.{Close as CloseRoad, Open as OpenRoad}
 use Rattle.layers.specs.declared.calls.SlowdownCall.TheVariants.{Slow as SlowRoad, Clear as ClearRoad}
-use Rattle.layers.specs.declared.closures.Closures.{Closures}
-use Rattle.layers.specs.declared.slowdowns.Slowdowns.{Slowdowns}
-use Rattle.layers.specs.Closures.{closed_by, closures_by, close_answer, open_answer, Closing, Opening, LeftBy as ClosuresLeftBy}
-use Rattle.layers.specs.Slowdowns.{Slowing, Clearing, LeftBy as SlowdownsLeftBy}
+use Rattle.layers.specs.Closures.{Closures, closed_by, closures_by, close_answer, open_answer, Closing, Opening, LeftBy as ClosuresLeftBy}
+use Rattle.layers.specs.Slowdowns.{Slowdowns, Slowing, Clearing, LeftBy as SlowdownsLeftBy}
 use Rattle.table.specs.declared.tables.Table.{Table}
 use Rattle.histories.specs.declared.calls.Call.{Call}
 use Rattle.histories.specs.declared.calls.Call.TheVariants.{Close, Open, Slow, Clear}

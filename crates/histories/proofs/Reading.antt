@@ -1,21 +1,21 @@
 -- The map of a unit as its history makes it read, and that all of a unit is consistent.
-use Rattle.std.proofs.Common.{◌≡◌, ℕ, ◌≤◌, Bool, true, false, ◌&&◌, eqb, List, take, Some, None, Option, sym, refl, ap, ◌∙◌, arith}
+use Rattle.std.proofs.Common.{◌≡◌, ℕ, ◌≤◌, Bool, true, false, ◌&&◌, eqb, List, [], ◌∷◌, length, Some, None, Option, sym, refl, ap, ◌∙◌, arith}
 use Rattle.std.specs.Option.{option_map}
 use Rattle.std.proofs.lemmas.Bool.{and_parts, eqb-true}
+use Rattle.map.specs.declared.numbers.RoadId.{RoadId}
 use Rattle.map.specs.declared.roads.Mark.TheVariants.{Open}
 use Rattle.map.specs.declared.roads.Road.{Road}
 use Rattle.map.specs.Model.{MapModel, WellFormed}
 use Rattle.map.specs.Through.{through}
 use Rattle.map.proofs.Through.{was}
-use Rattle.entries.specs.declared.tables.ClosedRoads.{ClosedRoads}
-use Rattle.entries.specs.declared.tables.SlowedRoads.{SlowedRoads}
-use Rattle.entries.specs.Entries.{closed_road, has}
-use Rattle.entries.specs.Slowdowns.{figure_in}
+use Rattle.entries.specs.declared.slowdown.Slowdown.{Slowdown}
+use Rattle.entries.specs.Entries.{entry_for}
+use Rattle.entries.specs.Slowdowns.{slow_road}
 use Rattle.entries.specs.Tables.{holds, figure}
 use Rattle.entries.specs.Readings.{shut, at_least, slowed, closing, slowing}
 use Rattle.entries.proofs.Readings.{closing_well, slowing_well}
-use Rattle.layers.specs.declared.closures.Closures.{Closures}
-use Rattle.layers.specs.declared.slowdowns.Slowdowns.{Slowdowns}
+use Rattle.layers.specs.Closures.{Closures}
+use Rattle.layers.specs.Slowdowns.{Slowdowns}
 use Rattle.routes.specs.Asking.{Consistent}
 use Rattle.routes.specs.Layers.{Layered}
 use Rattle.routes.proofs.Layers.{layered_over}
@@ -73,11 +73,15 @@ slowing_layered figures m = through_layered (λ r. slowed (figures r)) m
     (λ r x. record { start = refl; end = refl; steepness = refl; slower = no_sooner (figures r) x.seconds; open_below = λ h. h })
 
 -- ---- no entries
-none_closed : (t : ClosedRoads) (r : ℕ) → t.len ≡ 0 → holds t r ≡ false
-none_closed t r e = ap (λ n. has closed_road (take n t.entries) r) e
+none_closed : (t : List RoadId) (r : ℕ) → length t ≡ 0 → holds t r ≡ false
+unfolding entry_for
+none_closed [] r e = refl
+none_closed (x ∷ t) r e = let no' : ⊥ = omega arith in absurd no'
 
-none_slowed : (t : SlowedRoads) (r : ℕ) → t.len ≡ 0 → figure t r ≡ None
-none_slowed t r e = ap (λ n. figure_in (take n t.entries) r) e
+none_slowed : (t : List Slowdown) (r : ℕ) → length t ≡ 0 → figure t r ≡ None
+unfolding entry_for
+none_slowed [] r e = refl
+none_slowed (x ∷ t) r e = let no' : ⊥ = omega arith in absurd no'
 
 as_below : (o : Option Road) (closed : Bool) (own : Option ℕ) → closed ≡ false → own ≡ None → option_map (shut closed) (option_map (slowed own) o) ≡ o
 as_below None closed own e f = refl
@@ -96,21 +100,21 @@ module _ {K T G : Type 0} (thing : K → T) (leq : T → T → Bool) (plus : K �
       ∙ ap (λ (f : ℕ → Option ℕ). closing (is_closed h) (slowing f base)) figures
 
   -- and has entries where the history says
-  pub empty_is : (eqb map.roads.len 0 && eqb map.below.roads.len 0) ≡ no_entries h
+  pub empty_is : (eqb (length map.roads) 0 && eqb (length map.below.roads) 0) ≡ no_entries h
   empty_is = rw (left.closures.count, left.slowdowns.count)
 
   pub consistent : WellFormed base →
       Consistent thing leq plus nil blocked price (closing (holds map.roads) (slowing (figure map.below.roads) base)) base (stored decoded table)
-      (eqb map.roads.len 0 && eqb map.below.roads.len 0)
+      (eqb (length map.roads) 0 && eqb (length map.below.roads) 0)
   consistent fits =
       let slow = slowing (figure map.below.roads) base in
       record {
         base_fits = fits;
-        now_fits = closing_well (holds map.roads) slow (slowing_well map.below.roads base fits);
+        now_fits = closing_well (holds map.roads) slow (slowing_well (entry_for slow_road map.below.roads) base fits);
         layered = layered_over base slow (closing (holds map.roads) slow) (slowing_layered (figure map.below.roads) base) (closing_layered (holds map.roads) slow);
         rows = λ i p. left.rows i (sym (left.prepared i) ∙ p);
         unchanged = λ empty r.
-            let both = and_parts (eqb map.roads.len 0) (eqb map.below.roads.len 0) empty in
+            let both = and_parts (eqb (length map.roads) 0) (eqb (length map.below.roads) 0) empty in
             as_below (base.road r) (holds map.roads r) (figure map.below.roads r)
-            (none_closed map.roads r (eqb-true map.roads.len 0 both.0)) (none_slowed map.below.roads r (eqb-true map.below.roads.len 0 both.1));
+            (none_closed map.roads r (eqb-true (length map.roads) 0 both.0)) (none_slowed map.below.roads r (eqb-true (length map.below.roads) 0 both.1));
       }

@@ -5,10 +5,8 @@ use Rattle.std.proofs.lemmas.Bool.{lt-ltb, eqb-true, false≢true}
 use Rattle.fringe.specs.declared.place.Place.{Place}
 use Rattle.map.specs.declared.numbers.District.{District}
 use Rattle.map.specs.Model.{MapModel}
-use Rattle.layers.specs.declared.closures.Closures.{Closures}
-use Rattle.layers.specs.declared.slowdowns.Slowdowns.{Slowdowns}
-use Rattle.layers.specs.Closures.{LeftBy as ClosuresLeftBy}
-use Rattle.layers.specs.Slowdowns.{LeftBy as SlowdownsLeftBy}
+use Rattle.layers.specs.Closures.{Closures, LeftBy as ClosuresLeftBy}
+use Rattle.layers.specs.Slowdowns.{Slowdowns, LeftBy as SlowdownsLeftBy}
 use Rattle.routes.specs.Prepared.{RowHolds}
 use Rattle.table.specs.declared.entry.Entry.{Entry}
 use Rattle.table.specs.declared.tables.Table.{Table}

@@ -8,10 +8,8 @@ use Rattle.layers.specs.declared.calls.ClosureCall.{ClosureCall}
 use Rattle.layers.specs.declared.calls.ClosureCall.TheVariants.{Close as CloseRoad, Open as OpenRoad}
 use Rattle.layers.specs.declared.calls.SlowdownCall.{SlowdownCall}
 use Rattle.layers.specs.declared.calls.SlowdownCall.TheVariants.{Slow as SlowRoad, Clear as ClearRoad}
-use Rattle.layers.specs.declared.closures.Closures.{Closures}
-use Rattle.layers.specs.declared.slowdowns.Slowdowns.{Slowdowns}
-use Rattle.layers.specs.Closures.{closed_by, closures_by, LeftBy as ClosuresLeftBy, answer_by as closures_answer_by}
-use Rattle.layers.specs.Slowdowns.{figure_by, figures_by, LeftBy as SlowdownsLeftBy, answer_by as slowdowns_answer_by}
+use Rattle.layers.specs.Closures.{Closures, closed_by, closures_by, LeftBy as ClosuresLeftBy, answer_by as closures_answer_by}
+use Rattle.layers.specs.Slowdowns.{Slowdowns, figure_by, figures_by, LeftBy as SlowdownsLeftBy, answer_by as slowdowns_answer_by}
 use Rattle.routes.specs.Prepared.{RowHolds}
 use Rattle.table.specs.declared.tables.Table.{Table}
 use Rattle.table.specs.Entries.{is_prepared}

@@ -1,4 +1,3 @@
-pub mod Closing
 pub mod Counting
 pub mod Running
-pub mod Slowing
+pub mod Steps

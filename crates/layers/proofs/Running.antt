@@ -1,33 +1,37 @@
 -- Calls in turn on a new layer leave it as their history says.
-use Rattle.std.proofs.Common.{◌≡◌, ℕ, ◌+◌, ◌<◌, ◌≤◌, List, length, get_or, take, Result, sym, ◌∙◌, subst}
+use Rattle.std.proofs.Common.{◌≡◌, ℕ, ◌+◌, ◌<◌, ◌≤◌, List, length, get_or, take, Result, sym, ap, ◌∙◌, subst}
 use Rattle.std.proofs.lemmas.List.{take_all}
 use Rattle.std.proofs.lemmas.List.Sums.{fold_more}
 use Rattle.map.specs.Model.{MapModel}
 use Rattle.entries.specs.declared.refusals.Refusal.{Refusal}
+use Rattle.layers.specs.declared.layer.Layer.{Layer}
 use Rattle.layers.specs.Histories.{further, history_of, ByHistory}
+use Rattle.layers.specs.Layers.{Left, answer_by}
+use Rattle.layers.specs.Rules.{Rules}
 
-module _ {C L G : Type 0} (answer : MapModel → List C → C → Result Unit Refusal) (Left : List C → L → Type 0) (below_of : L → G) (f : G → MapModel) where
+module _ {E C V G A : Type 0} (road_of : E → ℕ) (again : Result Unit Refusal) (k : Rules E C V) (f : G → MapModel) where
   -- after the first i calls the layer c, which was `was`, is as its history says, over the same map
-  pub record Going (was : L) (calls : List C) (i : ℕ) (c : L) : Type 0 where
-    pub same : below_of c ≡ below_of was
-    pub left : (h : List C) → Left h was → Left (history_of (answer (f (below_of was))) h (take i calls)) c
+  pub record Going (was : Layer G E A) (calls : List C) (i : ℕ) (c : Layer G E A) : Type 0 where
+    pub same : c.below ≡ was.below
+    pub left : (h : List C) → Left road_of k h was.roads → Left road_of k (history_of (answer_by again k (f was.below)) h (take i calls)) c.roads
 
-  pub going_more : (was : L) (calls : List C) (i : ℕ) (before after : L) (d : C) (a : Result Unit Refusal) →
-      Going was calls i before → i < length calls → below_of after ≡ below_of before →
-      ((h : List C) → Left h before → ByHistory (answer (f (below_of before))) Left h (get_or calls i d) a after) →
+  pub going_more : (was : Layer G E A) (calls : List C) (i : ℕ) (before after : Layer G E A) (call : C) (a : Result Unit Refusal) →
+      Going was calls i before → i < length calls → call ≡ get_or calls i call → after.below ≡ before.below →
+      ((h : List C) → Left road_of k h before.roads → ByHistory (answer_by again k (f before.below)) (λ h (l : Layer G E A). Left road_of k h l.roads) h call a after) →
       Going was calls (i + 1) after
-  going_more was calls i before after d a g l s by =
-      let m = f (below_of was) in
-      let call = get_or calls i d in
+  going_more was calls i before after call a g l is s by =
+      let answer = answer_by again k (f was.below) in
       record {
         same = s ∙ g.same;
-        left = λ h k.
-            let past = history_of (answer m) h (take i calls) in
-            let b : ByHistory (answer m) Left past call a after = subst (λ (x : G). ByHistory (answer (f x)) Left past call a after) g.same (by past (g.left h k)) in
-            let answered : Left (further past call (answer m past call)) after = subst (λ (x : Result Unit Refusal). Left (further past call x) after) b.answered b.left in
-            let step = fold_more (λ (x : List C) y. further x y (answer m x y)) h calls i d l in
-            subst (λ (x : List C). Left x after) (sym step) answered;
+        left = λ h w.
+            let past = history_of answer h (take i calls) in
+            let b = by past (g.left h w) in
+            let answered : a ≡ answer past call = b.answered ∙ ap (λ x. answer_by again k (f x) past call) g.same in
+            let step = fold_more (λ (x : List C) y. further x y (answer x y)) h calls i call l in
+            let now : further past call a ≡ history_of answer h (take (i + 1) calls) = ap (further past call) answered ∙ ap (λ y. further past y (answer past y)) is ∙ sym step in
+            subst (λ (x : List C). Left road_of k x after.roads) now b.left;
       }
 
-  pub gone : (was : L) (calls : List C) (i : ℕ) (c : L) → length calls ≤ i → Going was calls i c → (h : List C) → Left h was → Left (history_of (answer (f (below_of was))) h calls) c
-  gone was calls i c l g h k = subst (λ (xs : List C). Left (history_of (answer (f (below_of was))) h xs) c) (take_all i calls l) (g.left h k)
+  pub gone : (was : Layer G E A) (calls : List C) (i : ℕ) (c : Layer G E A) → length calls ≤ i → Going was calls i c →
+      (h : List C) → Left road_of k h was.roads → Left road_of k (history_of (answer_by again k (f was.below)) h calls) c.roads
+  gone was calls i c l g h w = subst (λ xs. Left road_of k (history_of (answer_by again k (f was.below)) h xs) c.roads) (take_all i calls l) (g.left h w)

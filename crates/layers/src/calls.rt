@@ -2,14 +2,14 @@
 use map::numbers::RoadId;
 
 /// A call that changes a layer of closures.
-#[derive(Clone, Copy)]
+#[derive(Clone, Copy, PartialEq, Eq, Debug)]
 pub enum ClosureCall {
     Close(RoadId),
     Open(RoadId),
 }
 
 /// A call that changes a layer of slowdowns.
-#[derive(Clone, Copy)]
+#[derive(Clone, Copy, PartialEq, Eq, Debug)]
 pub enum SlowdownCall {
     Slow(RoadId, u16),
     Clear(RoadId),

@@ -3,9 +3,13 @@
 
 pub mod calls;
 pub mod closures;
+pub mod kinds;
+pub mod layer;
 pub mod slowdowns;
 
 pub use calls::{ClosureCall, SlowdownCall};
 pub use closures::Closures;
 pub use entries::refusals::Refusal;
+pub use kinds::Kind;
+pub use layer::Layer;
 pub use slowdowns::Slowdowns;

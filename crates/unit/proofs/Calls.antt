@@ -1,14 +1,12 @@
 -- What the calls on the layers make of the unit.
-use Rattle.std.proofs.Common.{ℕ, Bool, Ok, Err, Result, refl, ap, ◌∙◌}
+use Rattle.std.proofs.Common.{ℕ, Bool, length, Ok, Err, Result, refl, ap, ◌∙◌}
 use Rattle.map.specs.declared.numbers.RoadId.{RoadId}
 use Rattle.map.specs.Model.{MapModel}
 use Rattle.entries.specs.declared.refusals.Refusal.{Refusal as LayerRefusal}
 use Rattle.entries.specs.Readings.{slowed, slowing}
 use Rattle.entries.specs.Tables.{holds, figure}
-use Rattle.layers.specs.declared.closures.Closures.{Closures}
-use Rattle.layers.specs.declared.slowdowns.Slowdowns.{Slowdowns}
-use Rattle.layers.specs.Closures.{Closing as LayerClosing, Opening as LayerOpening}
-use Rattle.layers.specs.Slowdowns.{Slowing as LayerSlowing, Clearing as LayerClearing}
+use Rattle.layers.specs.Closures.{Closures, Closing as LayerClosing, Opening as LayerOpening}
+use Rattle.layers.specs.Slowdowns.{Slowdowns, Slowing as LayerSlowing, Clearing as LayerClearing}
 use Rattle.histories.specs.Histories.{lifted}
 use Rattle.histories.proofs.Leaving.{close_through, open_through, left_close, left_open, left_slow, left_clear}
 use Rattle.unit.specs.declared.units.Unit.{Unit as MapUnit}
@@ -27,14 +25,14 @@ module _ {K T M G : Type 0} (thing : K → T) (leq : T → T → Bool) (plus : K
   pub closing : (m : Closures (Slowdowns G)) (a : Result Unit LayerRefusal) → LayerClosing (slowing (figure before.map.below.roads) base) road before.map m a →
       Closing thing leq plus nil blocked price decoded base road before (over m) (lifted a)
   closing m (Ok u) c = record {
-    answer = ap lifted (c.answer ∙ close_through (slowed (figure before.map.below.roads road.0)) (base.road road.0) (holds before.map.roads road.0) before.map.roads.len);
+    answer = ap lifted (c.answer ∙ close_through (slowed (figure before.map.below.roads road.0)) (base.road road.0) (holds before.map.roads road.0) (length before.map.roads));
     change = c.change;
     below = c.below;
     table = refl;
     history = λ h was. left_close thing leq plus nil blocked price decoded base h before.table road before.map m was (Ok u) c;
   }
   closing m (Err e) c = record {
-    answer = ap lifted (c.answer ∙ close_through (slowed (figure before.map.below.roads road.0)) (base.road road.0) (holds before.map.roads road.0) before.map.roads.len);
+    answer = ap lifted (c.answer ∙ close_through (slowed (figure before.map.below.roads road.0)) (base.road road.0) (holds before.map.roads road.0) (length before.map.roads));
     change = ap over c.change;
     below = c.below;
     table = refl;

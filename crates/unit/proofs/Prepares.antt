@@ -6,6 +6,8 @@ use Rattle.std.proofs.lemmas.List.{length-take-le}
 use Rattle.fringe.specs.Fringes.{Meaning, Emptied}
 use Rattle.map.specs.declared.numbers.District.{District}
 use Rattle.map.specs.Model.{MapModel, WellFormed}
+use Rattle.layers.specs.Closures.{Closures}
+use Rattle.layers.specs.Slowdowns.{Slowdowns}
 use Rattle.routes.specs.declared.labels.Label.{Label}
 use Rattle.routes.specs.declared.labels.Label.TheVariants.{Blank}
 use Rattle.routes.specs.Prepared.{RowHolds}
@@ -14,8 +16,6 @@ use Rattle.table.specs.Entries.{in_column, is_prepared, entry_at, Filled}
 use Rattle.table.specs.Views.{cost_in, pair_in, row_costs, row_pairs, stored}
 use Rattle.preparing.specs.declared.Prepared.{Prepared}
 use Rattle.preparing.specs.Rows.{RowPrepared, linked}
-use Rattle.layers.specs.declared.closures.Closures.{Closures}
-use Rattle.layers.specs.declared.slowdowns.Slowdowns.{Slowdowns}
 use Rattle.histories.specs.declared.calls.Call.{Call}
 use Rattle.histories.specs.declared.calls.Call.TheVariants.{Prepare}
 use Rattle.histories.specs.declared.refusals.Refusal.{Refusal}

@@ -1,5 +1,5 @@
 -- What the calls on a unit's layers answer and do.
-use Rattle.std.specs.Prelude.{◌≡◌, ℕ, Bool, List, is_some, Result, MatchResult}
+use Rattle.std.specs.Prelude.{◌≡◌, ℕ, Bool, List, length, is_some, Result, MatchResult}
 use Rattle.map.specs.declared.numbers.RoadId.{RoadId}
 use Rattle.map.specs.Model.{MapModel}
 use Rattle.entries.specs.Tables.{holds, figure, Added, Removed, Slowed, Cleared}
@@ -18,7 +18,7 @@ module _ {K T : Type 0} (thing : K → T) (leq : T → T → Bool) (plus : K →
   -- A close of the road. An accepted one puts the road on the layer of closures and changes nothing else, and a refused
   -- one changes nothing at all.
   pub record Closing {M G : Type 0} (road : RoadId) (before after : MapUnit M G) (a : Result Unit Refusal) : Type 0 where
-    pub answer : a ≡ lifted (close_answer (base.road road.0) (holds before.map.roads road.0) before.map.roads.len)
+    pub answer : a ≡ lifted (close_answer (base.road road.0) (holds before.map.roads road.0) (length before.map.roads))
     pub change : MatchResult a (λ _. Added before.map.roads after.map.roads road.0) (λ _. after ≡ before)
     pub below : after.map.below ≡ before.map.below
     pub table : after.table ≡ before.table
@@ -38,7 +38,7 @@ module _ {K T : Type 0} (thing : K → T) (leq : T → T → Bool) (plus : K →
   -- A slow of the road to the figure f. An accepted one gives the road that figure on the layer of slowdowns and changes
   -- nothing else, and a refused one changes nothing at all.
   pub record Slowing {M G : Type 0} (road : RoadId) (f : ℕ) (before after : MapUnit M G) (a : Result Unit Refusal) : Type 0 where
-    pub answer : a ≡ lifted (slow_answer (base.road road.0) f (figure before.map.below.roads road.0) before.map.below.roads.len)
+    pub answer : a ≡ lifted (slow_answer (base.road road.0) f (figure before.map.below.roads road.0) (length before.map.below.roads))
     pub change : MatchResult a (λ _. Slowed before.map.below.roads after.map.below.roads road.0 f) (λ _. after ≡ before)
     pub closures : after.map.roads ≡ before.map.roads
     pub below : after.map.below.below ≡ before.map.below.below

@@ -1,5 +1,5 @@
 -- What a question answers and does.
-use Rattle.std.specs.Prelude.{◌≡◌, ℕ, Bool, ◌&&◌, List, Some, None, Ok, Err, Option, Result, ◌==◌}
+use Rattle.std.specs.Prelude.{◌≡◌, ℕ, Bool, ◌&&◌, List, length, Some, None, Ok, Err, Option, Result, ◌==◌}
 use Rattle.fringe.specs.declared.place.Place.{Place}
 use Rattle.fringe.specs.Fringes.{Meaning, Emptied}
 use Rattle.map.specs.Model.{MapModel}
@@ -22,7 +22,7 @@ map_now base u = closing (holds u.map.roads) (slowing (figure u.map.below.roads)
 
 -- Neither layer has an entry.
 abbrev pub no_entry_now : {M G : Type 0} → MapUnit M G → Bool
-no_entry_now u = u.map.roads.len == 0 && u.map.below.roads.len == 0
+no_entry_now u = length u.map.roads == 0 && length u.map.below.roads == 0
 
 -- The memory that a question is lent: two rows of labels, two fringes and a list.
 pub record Lent (K F N : Type 0) : Type 0 where

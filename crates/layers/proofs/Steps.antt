@@ -1,0 +1,100 @@
+-- A call leaves a layer as its history says.
+use Rattle.std.proofs.Common.{◌≡◌, ℕ, ◌+◌, ◌<◌, Bool, true, false, cond, eqb, List, ◌∷◌, length, is_some, Some, None, Ok, Err, Option, Result, sym, refl, ap, ◌∙◌, subst, arith, MatchResult}
+use Rattle.std.proofs.lemmas.Bool.{eq-eqb, ne_eqb, false≢true}
+use Rattle.map.specs.declared.roads.Road.{Road}
+use Rattle.map.specs.Model.{MapModel, WellFormed}
+use Rattle.entries.specs.declared.refusals.Refusal.{Refusal}
+use Rattle.entries.specs.Entries.{entry_for}
+use Rattle.layers.specs.declared.layer.Layer.{Layer}
+use Rattle.layers.specs.Histories.{last_on, further}
+use Rattle.layers.specs.Layers.{on_road, table_answer, Given, said_by, Left, Called}
+use Rattle.layers.specs.Rules.{Rules, RuleLaws}
+use Rattle.layers.proofs.Counting.{many_step}
+
+module _ {E C V : Type 0} (road_of : E → ℕ) (again : Result Unit Refusal) (k : Rules E C V) (laws : RuleLaws road_of k) where
+  -- what one call more says
+  said_more : (h : List C) (call : C) (q : ℕ) → said_by k (call ∷ h) q ≡ cond (eqb (k.named call) q) (k.leaves (Some call)) (said_by k h q)
+  said_more h call q =
+      elim (eqb (k.named call) q) as (λ b. k.leaves (cond b (Some call) (last_on k.named h q)) ≡ cond b (k.leaves (Some call)) (said_by k h q)) [ true ↦ refl | false ↦ refl ]
+
+  -- what the entries show where one of them changes
+  shown : (b : Bool) (o p : Option E) → k.shows (cond b o p) ≡ cond b (k.shows o) (k.shows p)
+  shown true o p = refl
+  shown false o p = refl
+
+  module _ (h : List C) (call : C) (before after : List E) (own : Option E) (is : k.entry_of call ≡ Ok own) (below : k.named call < 65536) (was : Left road_of k h before) where
+    left_one : ((q : ℕ) → entry_for road_of after q ≡ cond (eqb (k.named call) q) own (entry_for road_of before q)) →
+        length after + cond (is_some (entry_for road_of before (k.named call))) 1 0 ≡ length before + cond (is_some own) 1 0 → Left road_of k (call ∷ h) after
+    left_one reads count =
+        let r = k.named call in
+        let here : k.counted (said_by k (call ∷ h) r) ≡ is_some own = ap k.counted (said_more h call r ∙ rw (eq-eqb r r refl) (sym (laws.says call own is))) ∙ laws.counts own in
+        let there : k.counted (said_by k h r) ≡ is_some (entry_for road_of before r) = ap k.counted (sym (was.reads r)) ∙ laws.counts (entry_for road_of before r) in
+        let step = rw (here, there) at (many_step (λ q. k.counted (said_by k h q)) (λ q. k.counted (said_by k (call ∷ h) q)) r 65536 below
+        (λ q ne. ap k.counted (said_more h call q ∙ rw (ne_eqb r q (λ e. ne (sym e)))))) in
+        record {
+          reads = λ q. ap k.shows (reads q) ∙ shown (eqb r q) own (entry_for road_of before q)
+              ∙ ap (λ v. cond (eqb r q) v (k.shows (entry_for road_of before q))) (laws.says call own is)
+              ∙ ap (cond (eqb r q) (k.leaves (Some call))) (was.reads q) ∙ sym (said_more h call q);
+          count = omega (arith, was.count, count, step);
+        }
+
+  module _ (h : List C) (call : C) (before after : List E) (below : k.named call < 65536) (was : Left road_of k h before) where
+    counted : (b : Bool) (m n : ℕ) → m ≡ n + cond b 0 1 → m + cond b 1 0 ≡ n + 1
+    counted true m n e = omega arith
+    counted false m n e = omega arith
+
+    left_given : (o : Result (Option E) Refusal) → k.entry_of call ≡ o → Given road_of o (k.named call) before after → Left road_of k (call ∷ h) after
+    left_given (Err e) is g = absurd g
+    left_given (Ok None) is g = left_one h call before after None is below was g.reads (rw g.there (omega (arith, g.count)))
+    left_given (Ok (Some e)) is g =
+        let own = laws.own_road call e is in
+        left_one h call before after (Some e) is below was (λ q. g.reads q ∙ ap (λ r. cond (eqb r q) (Some e) (entry_for road_of before q)) own)
+        (counted (is_some (entry_for road_of before (k.named call))) (length after) (length before) (g.count ∙ ap (λ r. length before + cond (is_some (entry_for road_of before r)) 0 1) own))
+
+  -- ---- a call on a road that the map below has
+  module _ {G A : Type 0} (m : MapModel) (w : WellFormed m) (call : C) (there : is_some (m.road (k.named call)) ≡ true) (before : Layer G E A) (t : List E) where
+    on : (o : Option Road) (a : Result Unit Refusal) → is_some o ≡ true → on_road o a ≡ a
+    on (Some x) a e = refl
+    on None a e = absurd (false≢true e)
+
+    -- its number is below 65,536
+    numbered : (o : Option Road) → m.road (k.named call) ≡ o → is_some o ≡ true → k.named call < 65536
+    numbered (Some x) is e = omega (arith, (w.road_fits (k.named call) x is).numbered, w.few_roads)
+    numbered None is e = absurd (false≢true e)
+
+    abbrev layer : Layer G E A
+    layer = record { below = before.below; roads = t }
+
+    change_is : (P : Type 0) (a : Result Unit Refusal) → MatchResult a (λ _. P) (λ _. t ≡ before.roads) → MatchResult a (λ _. P) (λ _. ◌≡◌ {A = Layer G E A} layer before)
+    change_is P (Ok u) c = c
+    change_is P (Err r) c = ap (λ (s : List E). record { below = before.below; roads = s }) c
+
+    left_by : (h : List C) (a : Result Unit Refusal) → Left road_of k h before.roads →
+        MatchResult a (λ _. Given road_of (k.entry_of call) (k.named call) before.roads t) (λ _. t ≡ before.roads) → Left road_of k (further h call a) t
+    left_by h (Ok u) was c = left_given h call before.roads t (numbered (m.road (k.named call)) refl there) was (k.entry_of call) refl c
+    left_by h (Err r) was c = subst (Left road_of k h) (sym c) was
+
+    called : (a : Result Unit Refusal) →
+        a ≡ table_answer again (k.entry_of call) (is_some (entry_for road_of before.roads (k.named call))) (length before.roads) →
+        MatchResult a (λ _. Given road_of (k.entry_of call) (k.named call) before.roads t) (λ _. t ≡ before.roads) →
+        Called road_of again k m call before layer a
+    called a e c = record {
+      answer = e ∙ sym (on (m.road (k.named call)) _ there);
+      change = change_is (Given road_of (k.entry_of call) (k.named call) before.roads t) a c;
+      below = refl;
+      history = λ h was. record {
+        answered = e ∙ sym (on (m.road (k.named call)) _ there)
+            ∙ ap (λ b. on_road (m.road (k.named call)) (table_answer again (k.entry_of call) b (length before.roads))) (sym (laws.counts (entry_for road_of before.roads (k.named call))) ∙ ap k.counted (was.reads (k.named call)))
+            ∙ ap (λ n. on_road (m.road (k.named call)) (table_answer again (k.entry_of call) (k.counted (said_by k h (k.named call))) n)) was.count;
+        left = left_by h a was c;
+      };
+    }
+
+    -- by what its road is to have
+    pub called_for : (o : Result (Option E) Refusal) → k.entry_of call ≡ o → (a : Result Unit Refusal) →
+        a ≡ table_answer again o (is_some (entry_for road_of before.roads (k.named call))) (length before.roads) →
+        MatchResult a (λ _. Given road_of o (k.named call) before.roads t) (λ _. t ≡ before.roads) →
+        Called road_of again k m call before layer a
+    called_for o is a e c =
+        called a (subst (λ z. a ≡ table_answer again z (is_some (entry_for road_of before.roads (k.named call))) (length before.roads)) (sym is) e)
+        (subst (λ z. MatchResult a (λ _. Given road_of z (k.named call) before.roads t) (λ _. t ≡ before.roads)) (sym is) c)
