@@ -13,6 +13,8 @@ use std::marker::{Model, PhantomData};
 pub const ROOM: usize = 64;
 
 /// Up to 64 entries, no two of them for one road. The first `len` of its places are in use.
+///
+/// The length stands beside the places since there is no heap.
 #[derive(Drop)]
 pub struct Entries<E: Entry, A: Places<E>> {
     places: A,

@@ -11,8 +11,9 @@ use map::roads::Road;
 
 /// A kind of layer, told by the entries that it keeps.
 ///
-/// `rules` says what the kind goes by: what entries and calls say of a road, and how a road reads of which that is said.
-/// `well` is that a map stays well formed so.
+/// `Said` is what is said of a road, and `rules` what the kind goes by: what entries and calls say of a road, and how a
+/// road reads of which that is said. `well` is that a map stays well formed so, and `laws` that a call says of its road
+/// what the entry says that it gives it.
 pub trait Kind: Entry {
     /// The calls that change a layer of this kind.
     type Call: Copy;
