@@ -139,10 +139,7 @@ impl Fields<'_> {
     {
         let places = self.place_count();
         let fall = first_fall(self.roads(), |entry| road_key(entry, places));
-        match fall {
-            Some(r) => Err(Refusal::WrongRoad(RoadId(r as u16))),
-            None => Ok(()),
-        }
+        fall.map_or(Ok(()), |r| Err(Refusal::WrongRoad(RoadId(r as u16))))
     }
 
     /// Judges each arrival: it is a road's number, and the road rises above the one before it by end, then start.
@@ -150,10 +147,7 @@ impl Fields<'_> {
         ensures { result ≡ verdict (right_arrivals self.now.bytes.now) tt }
     {
         let fall = first_fall(self.arrivals(), |entry| self.arrival_key(entry));
-        match fall {
-            Some(i) => Err(Refusal::WrongArrival(i)),
-            None => Ok(()),
-        }
+        fall.map_or(Ok(()), |i| Err(Refusal::WrongArrival(i)))
     }
     /// Judges the contents, each over its whole field.
     fn check_contents(&self) -> Result<(), Refusal>
