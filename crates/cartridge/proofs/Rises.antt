@@ -1,12 +1,10 @@
 -- Roads that rise by a pair of numbers.
-use Rattle.std.proofs.Common.{◌≡◌, ℕ, zero, suc, ◌<◌, ◌≤◌, Bool, true, false, not, ◌&&◌, List, nat_lt, Some, None, Ok, Err, Option, Result, refl, sym, ◌∙◌, inl, inr, arith}
-use Rattle.std.specs.Option.{option_map}
+use Rattle.std.proofs.Common.{◌≡◌, ℕ, zero, suc, ◌<◌, ◌≤◌, Bool, true, false, not, ◌&&◌, List, nat_lt, Some, None, Option, refl, sym, ◌∙◌, inl, inr, arith}
 use Rattle.std.proofs.lemmas.Bool.{cases_Bool, not_from_false, not_from_true}
 use Rattle.map.specs.declared.roads.Road.{Road}
-use Rattle.format.specs.declared.Refusal.{Refusal}
 use Rattle.format.specs.Bytes.{places, roads}
 use Rattle.format.specs.Picks.{first}
-use Rattle.format.specs.Reading.{verdict, before, previous, within_limits, road_of, arrival_of, arriving, rises_by_start, rises_by_end}
+use Rattle.format.specs.Reading.{before, previous, within_limits, road_of, arrival_of, arriving, rises_by_start, rises_by_end}
 use Rattle.format.proofs.Verdicts.{stops_at, runs_out}
 use Rattle.cartridge.specs.Orders.{by_start, by_end, key_if, above, key_before, rises_at, FirstFall}
 
