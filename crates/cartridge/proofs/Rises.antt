@@ -1,13 +1,11 @@
 -- Roads that rise by a pair of numbers.
-use Rattle.std.proofs.Common.{◌≡◌, ℕ, zero, suc, ◌<◌, ◌≤◌, Bool, true, false, not, ◌&&◌, List, nat_lt, Some, None, Ok, Err, Option, Result, refl, sym, ◌∙◌, inl, inr, arith}
-use Rattle.std.specs.Option.{option_map}
+use Rattle.std.proofs.Common.{◌≡◌, ℕ, zero, suc, ◌<◌, ◌≤◌, Bool, true, false, not, ◌&&◌, List, nat_lt, Some, None, Option, refl, sym, ◌∙◌, inl, inr, arith}
 use Rattle.std.proofs.lemmas.Bool.{cases_Bool, not_from_false, not_from_true}
 use Rattle.map.specs.declared.roads.Road.{Road}
-use Rattle.format.specs.declared.Refusal.{Refusal}
 use Rattle.format.specs.Bytes.{places, roads}
 use Rattle.format.specs.Picks.{first}
-use Rattle.format.specs.Reading.{verdict, before, previous, within_limits, road_of, arrival_of, arriving, rises_by_start, rises_by_end}
-use Rattle.format.proofs.Verdicts.{refused_at, all_pass}
+use Rattle.format.specs.Reading.{before, previous, within_limits, road_of, arrival_of, arriving, rises_by_start, rises_by_end}
+use Rattle.format.proofs.Verdicts.{stops_at, runs_out}
 use Rattle.cartridge.specs.Orders.{by_start, by_end, key_if, above, key_before, rises_at, FirstFall}
 
 -- the i-th entry is the road `at i`, which is right by itself if `fits i`; roads rise by the pairs
@@ -42,15 +40,11 @@ module _ {key : ℕ → Option (ℕ × ℕ)} {n : ℕ} {fits : ℕ → Bool} {at
   all_right : (k : ℕ) → k ≤ n → ((i : ℕ) → i < k → rises_at key i ≡ true) → (i : ℕ) → 0 ≤ i → i < k → not (fits i && rises (previous at i) (at i)) ≡ false
   all_right k l b i z u = not_from_true _ (sym (right_if i (omega arith) (λ j v. b j (omega arith))) ∙ b i u)
 
-  -- what is refused, by the first entry that does not rise
-  pub falls_at : (f : ℕ → Refusal) (k : ℕ) → FirstFall key n (Some k) →
-      ◌≡◌ {A = Result Unit Refusal} (Err (f k)) (verdict (option_map f (first (λ i. not (fits i && rises (previous at i) (at i))) 0 n)) tt)
-  falls_at f k h = let l = h.0 in
-      refused_at (λ i. not (fits i && rises (previous at i) (at i))) n f k l (not_from_false _ (sym (right_if k l h.2) ∙ h.1)) (all_right k (omega arith) h.2)
-
-  pub never_falls : (f : ℕ → Refusal) → FirstFall key n None →
-      ◌≡◌ {A = Result Unit Refusal} (Ok tt) (verdict (option_map f (first (λ i. not (fits i && rises (previous at i) (at i))) 0 n)) tt)
-  never_falls f h = all_pass (λ i. not (fits i && rises (previous at i) (at i))) n f (all_right n (omega arith) h)
+  -- the first entry at which the keys do not rise is the first that is not right
+  pub first_wrong : (o : Option ℕ) → FirstFall key n o → o ≡ first (λ i. not (fits i && rises (previous at i) (at i))) 0 n
+  first_wrong None h = sym (runs_out (λ i. not (fits i && rises (previous at i) (at i))) n (all_right n (omega arith) h))
+  first_wrong (Some k) h = let l = h.0 in
+      sym (stops_at (λ i. not (fits i && rises (previous at i) (at i))) n k l (not_from_false _ (sym (right_if k l h.2) ∙ h.1)) (all_right k (omega arith) h.2))
 
 -- the keys of roads and arrivals
 abbrev pub road_key_of : List ℕ → ℕ → Option (ℕ × ℕ)

@@ -110,20 +110,16 @@ impl Fields<'_> {
         ensures { result ≡ verdict (known_districts self.now.bytes.now) tt }
     {
         let count = self.district_count();
-        match self.districts().iter().position(|d| *d >= count) {
-            Some(p) => Err(Refusal::NoSuchDistrict(Place(p as u16))),
-            None => Ok(()),
-        }
+        let unknown = self.districts().iter().position(|d| *d >= count);
+        unknown.map_or(Ok(()), |p| Err(Refusal::NoSuchDistrict(Place(p as u16))))
     }
 
     /// Judges whether each district has a place.
     fn check_inhabited(&self) -> Result<(), Refusal>
         ensures { result ≡ verdict (inhabited_districts self.now.bytes.now) tt }
     {
-        match (0..self.district_count()).find(|d| !self.has_place(*d)) {
-            Some(d) => Err(Refusal::EmptyDistrict(District(d))),
-            None => Ok(()),
-        }
+        let empty = (0..self.district_count()).find(|d| !self.has_place(*d));
+        empty.map_or(Ok(()), |d| Err(Refusal::EmptyDistrict(District(d))))
     }
 
     /// Whether some place is in the district.
@@ -139,10 +135,7 @@ impl Fields<'_> {
     {
         let places = self.place_count();
         let fall = first_fall(self.roads(), |entry| road_key(entry, places));
-        match fall {
-            Some(r) => Err(Refusal::WrongRoad(RoadId(r as u16))),
-            None => Ok(()),
-        }
+        fall.map_or(Ok(()), |r| Err(Refusal::WrongRoad(RoadId(r as u16))))
     }
 
     /// Judges each arrival: it is a road's number, and the road rises above the one before it by end, then start.
@@ -150,11 +143,9 @@ impl Fields<'_> {
         ensures { result ≡ verdict (right_arrivals self.now.bytes.now) tt }
     {
         let fall = first_fall(self.arrivals(), |entry| self.arrival_key(entry));
-        match fall {
-            Some(i) => Err(Refusal::WrongArrival(i)),
-            None => Ok(()),
-        }
+        fall.map_or(Ok(()), |i| Err(Refusal::WrongArrival(i)))
     }
+
     /// Judges the contents, each over its whole field.
     fn check_contents(&self) -> Result<(), Refusal>
         ensures { result ≡ verdict (contents self.now.bytes.now) tt }

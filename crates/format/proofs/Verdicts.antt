@@ -1,6 +1,5 @@
 -- What checks answer, by their judgements.
 use Rattle.std.proofs.Common.{◌≡◌, ℕ, ◌+◌, ◌<◌, ◌≤◌, Bool, true, false, List, ◌∷◌, IsErrAnd, Some, None, Ok, Err, Option, Result, sym, refl, ap, ◌∙◌, arith}
-use Rattle.std.specs.Option.{option_map}
 use Rattle.std.proofs.lemmas.Result.{err_from_is_err_and}
 use Rattle.format.specs.declared.Refusal.{Refusal}
 use Rattle.format.specs.Picks.{first}
@@ -20,14 +19,6 @@ module _ (fails : ℕ → Bool) (n : ℕ) where
 
   pub runs_out : ((i : ℕ) → 0 ≤ i → i < n → fails i ≡ false) → first fails 0 n ≡ None
   runs_out h = first_none fails 0 n (none_below h)
-
-  pub refused_at : (f : ℕ → Refusal) (k : ℕ) → k < n → fails k ≡ true → ((i : ℕ) → 0 ≤ i → i < k → fails i ≡ false) →
-      ◌≡◌ {A = Result Unit Refusal} (Err (f k)) (verdict (option_map f (first fails 0 n)) tt)
-  refused_at f k l t h = rw (stops_at k l t h)
-
-  pub all_pass : (f : ℕ → Refusal) → ((i : ℕ) → 0 ≤ i → i < n → fails i ≡ false) →
-      ◌≡◌ {A = Result Unit Refusal} (Ok tt) (verdict (option_map f (first fails 0 n)) tt)
-  all_pass f h = rw (runs_out h)
 
 -- one judgement after another
 pub goes_on : {A : Type 0} (x : Option Refusal) (a v : A) → Ok v ≡ verdict x a → (x ≡ None) × (v ≡ a)
