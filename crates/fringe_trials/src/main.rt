@@ -4,7 +4,6 @@
 use fringe::{Fringe, Order, Pair, Place, drain};
 use heap::Heap;
 use measure::{Steepness, Time};
-use std::alloc::{AllocError, Global};
 use winner_tree::WinnerTree;
 
 /// How many places the fringes have room for.
@@ -139,45 +138,83 @@ fn drain_both<C: Drawn, F: Fringe<C>>(
 
 /// Drives a fringe; answers how often it differs from a plain scan.
 fn drive<C: Drawn, F: Fringe<C>>(
-    heap: Global,
     fringe: &mut F,
-    some: (Place, C),
-) -> Result<u32, AllocError> {
-    let mut row = vec![in heap; None; PLACES]?;
-    let mut out = vec![in heap; some; 64]?;
+    row: &mut [Option<C>],
+    out: &mut [(Place, C)],
+) -> u32 {
+    row.fill(None);
     let mut dice = Dice(7);
     let mut differ = 0u32;
     for _ in 0..CALLS {
-        if !call_both(fringe, &mut row, &mut dice) {
+        if !call_both(fringe, row, &mut dice) {
             differ = differ.saturating_add(1);
         }
     }
-    Ok(differ.saturating_add(drain_both(fringe, &mut row, &mut out)))
+    differ.saturating_add(drain_both(fringe, row, out))
 }
 
-/// How often a heap and a winner tree differ from a plain scan, at costs like this one.
-fn differences<C: Drawn>(heap: Global, cost: C) -> Result<(u32, u32), AllocError> {
-    let some = (Place(9), cost);
-    let mut entries = vec![in heap; some; PLACES]?;
-    let mut costs = vec![in heap; Some(cost); PLACES]?;
-    let mut winners = vec![in heap; Some(some); 70]?;
-    let by_heap = drive(heap, &mut Heap::new(&mut entries, &mut [5; 70]), some)?;
-    let by_tree = drive(heap, &mut WinnerTree::new(&mut costs, &mut winners), some)?;
-    Ok((by_heap, by_tree))
+/// How often a heap and a winner tree over this memory differ from a plain scan.
+fn differences<C: Drawn>(
+    entries: &mut [(Place, C)],
+    costs: &mut [Option<C>],
+    winners: &mut [Option<(Place, C)>],
+    row: &mut [Option<C>],
+    out: &mut [(Place, C)],
+) -> (u32, u32) {
+    let mut positions = [5; 70];
+    let by_heap = drive(&mut Heap::new(entries, &mut positions), row, out);
+    let by_tree = drive(&mut WinnerTree::new(costs, winners), row, out);
+    (by_heap, by_tree)
+}
+
+/// The same, in memory for each place that holds this cost everywhere before: an array for each order, since one of a type
+/// parameter is not known to fit into memory.
+fn all_differences() -> [(&'static str, (u32, u32)); 3] {
+    let time = (Place(9), Time(3));
+    let steep = (Place(9), Steepness(3));
+    let pair = (
+        Place(9),
+        Pair {
+            first: 65_535,
+            second: 3,
+        },
+    );
+    [
+        (
+            "time",
+            differences(
+                &mut [time; PLACES],
+                &mut [Some(time.1); PLACES],
+                &mut [Some(time); 70],
+                &mut [None; PLACES],
+                &mut [time; 64],
+            ),
+        ),
+        (
+            "steepness",
+            differences(
+                &mut [steep; PLACES],
+                &mut [Some(steep.1); PLACES],
+                &mut [Some(steep); 70],
+                &mut [None; PLACES],
+                &mut [steep; 64],
+            ),
+        ),
+        (
+            "pairs",
+            differences(
+                &mut [pair; PLACES],
+                &mut [Some(pair.1); PLACES],
+                &mut [Some(pair); 70],
+                &mut [None; PLACES],
+                &mut [pair; 64],
+            ),
+        ),
+    ]
 }
 
 fn run(rt: &HostRuntime) -> anyhow::Result<()> {
-    let heap = rt.alloc();
-    let pair = Pair {
-        first: 65_535,
-        second: 3,
-    };
-    let kinds = [
-        ("time", differences(heap, Time(3))?),
-        ("steepness", differences(heap, Steepness(3))?),
-        ("pairs", differences(heap, pair)?),
-    ];
-    for (kind, (heap, tree)) in kinds {
+    for (kind, (heap, tree)) in all_differences() {
         println!(rt;
             "{kind}: of {CALLS} calls {heap} differ at the heap, {tree} at the winner tree"
         )?;

@@ -1,9 +1,10 @@
 //! A question answered.
-ghost use Rattle.std.specs.Prelude.{◌≡◌, ℕ, List, length};
+ghost use Rattle.std.specs.Prelude.{◌≡◌, List};
 ghost use Rattle.histories.specs.declared.calls.Call.{Call as CallOf};
-ghost use Rattle.histories.specs.Histories.{map_after, LeftBy};
+ghost use Rattle.histories.specs.Histories.{map_after};
 ghost use Rattle.unit.specs.Refusing.{question_refusal, verdict};
-ghost use Rattle.unit.specs.Questions.{no_entry_now, Questioning, by_the_rules, LeastOn};
+ghost use Rattle.unit.specs.Members.{Left, Least, Answering};
+ghost use Rattle.unit.specs.Questions.{no_entry_now};
 
 use crate::units::Unit;
 use asking::{Answer, ask};
@@ -68,8 +69,8 @@ impl<M: Measure + Copy, G: Map> Unit<M, G> {
         far: &mut N,
         list: &mut [Place],
     ) -> Result<Answer<M>, Refusal>
-        ensures rules { Questioning (question_refusal (G.Map.model self.now.map.below.below) start.0 goal.0 (length fore.old) (length back.old) (F.Fringe.meaning near.old).capacity (N.Fringe.meaning far.old).capacity (length list.old)) (by_the_rules M.Order.thing M.Order.leq M.Measure.plus M.Measure.nil M.Measure.top M.Measure.cost M.Measure.decoded (G.Map.model self.now.map.below.below) self.now start.0 goal.0) (G.Map.model self.now.map.below.below).places F.Fringe.well F.Fringe.meaning N.Fringe.well N.Fringe.meaning (record { fore = fore.old; back = back.old; near = near.old; far = far.old; list = list.old }) (record { fore = fore.new; back = back.new; near = near.new; far = far.new; list = list.new }) result }
-        ensures least { (h : List CallOf) → LeftBy M.Order.thing M.Order.leq M.Measure.plus M.Measure.nil M.Measure.top M.Measure.cost M.Measure.decoded (G.Map.model self.now.map.below.below) h self.now.map self.now.table → LeastOn M.Order.thing M.Order.leq M.Measure.plus M.Measure.nil M.Measure.cost (map_after (G.Map.model self.now.map.below.below) h) start.0 goal.0 list.new result }
+        ensures rules { Answering M.Order M.Measure.own G.Map.model F.Fringe N.Fringe self.now start.0 goal.0 (record { fore = fore.old; back = back.old; near = near.old; far = far.old; list = list.old }) (record { fore = fore.new; back = back.new; near = near.new; far = far.new; list = list.new }) result }
+        ensures least { (h : List CallOf) → Left M.Order M.Measure.own (G.Map.model self.now.map.below.below) h self.now → Least M.Order M.Measure.own (map_after (G.Map.model self.now.map.below.below) h) start.0 goal.0 list.new result }
     {
         let room = Room {
             fore: fore.len(),

@@ -1,10 +1,10 @@
 //! A row of the district table prepared.
-ghost use Rattle.std.specs.Prelude.{◌≡◌, ℕ, List, length};
+ghost use Rattle.std.specs.Prelude.{◌≡◌, List};
 ghost use Rattle.histories.specs.declared.calls.Call.{Call as CallOf};
 ghost use Rattle.histories.specs.declared.calls.Call.TheVariants.{Prepare};
-ghost use Rattle.histories.specs.Histories.{further, LeftBy};
+ghost use Rattle.histories.specs.Histories.{further};
 ghost use Rattle.unit.specs.Refusing.{prepare_refusal, verdict};
-ghost use Rattle.unit.specs.Preparing.{Preparing};
+ghost use Rattle.unit.specs.Members.{Left, Preparing};
 
 use crate::units::Unit;
 use fringe::fringes::Fringe;
@@ -52,8 +52,8 @@ impl<M: Measure + Copy, G: Map> Unit<M, G> {
         second: &mut [Label<M>],
         fringe: &mut F,
     ) -> Result<usize, Refusal>
-        ensures done { Preparing M.Order.thing M.Order.leq M.Measure.plus M.Measure.nil M.Measure.top M.Measure.cost M.Measure.decoded (G.Map.model self.old.map.below.below) (prepare_refusal (G.Map.model self.old.map.below.below) district.0 (length first.old) (length second.old) (F.Fringe.meaning fringe.old).capacity) district.0 self.old self.new first.old first.new second.old second.new F.Fringe.well F.Fringe.meaning fringe.old fringe.new result }
-        ensures history { (h : List CallOf) → LeftBy M.Order.thing M.Order.leq M.Measure.plus M.Measure.nil M.Measure.top M.Measure.cost M.Measure.decoded (G.Map.model self.old.map.below.below) h self.old.map self.old.table → LeftBy M.Order.thing M.Order.leq M.Measure.plus M.Measure.nil M.Measure.top M.Measure.cost M.Measure.decoded (G.Map.model self.old.map.below.below) (further h (Prepare district) result) self.new.map self.new.table }
+        ensures done { Preparing M.Order M.Measure.own G.Map.model F.Fringe district.0 self.old self.new first.old first.new second.old second.new fringe.old fringe.new result }
+        ensures history { (h : List CallOf) → Left M.Order M.Measure.own (G.Map.model self.old.map.below.below) h self.old → Left M.Order M.Measure.own (G.Map.model self.old.map.below.below) (further h (Prepare district) result) self.new }
     {
         let n = self.map.below.below.places();
         may_prepare(

@@ -3,8 +3,8 @@ ghost use Rattle.std.specs.Prelude.{◌≡◌, ℕ, []};
 ghost use Rattle.layers.specs.Closures.{LeftBy as ClosuresLeftBy};
 ghost use Rattle.layers.specs.Slowdowns.{LeftBy as SlowdownsLeftBy};
 ghost use Rattle.table.specs.Entries.{is_prepared};
-ghost use Rattle.histories.specs.Histories.{is_row_prepared, lifted, LeftBy};
-ghost use Rattle.unit.specs.Calls.{Closing, Opening, Slowing, Clearing};
+ghost use Rattle.histories.specs.Histories.{is_row_prepared, lifted};
+ghost use Rattle.unit.specs.Members.{Left, Closing, Opening, Slowing, Clearing};
 
 use entries::refusals::Refusal as LayerRefusal;
 use histories::refusals::Refusal;
@@ -28,7 +28,7 @@ impl<M: Measure + Copy, G: Map> Unit<M, G> {
     /// A unit over the base map: no road is closed or slowed, and no row is prepared.
     pub fn new(base: G) -> Self
         ensures base { result.map.below.below ≡ base }
-        ensures history { LeftBy M.Order.thing M.Order.leq M.Measure.plus M.Measure.nil M.Measure.top M.Measure.cost M.Measure.decoded (G.Map.model base) [] result.map result.table }
+        ensures history { Left M.Order M.Measure.own (G.Map.model base) [] result }
     {
         Unit {
             map: untouched(base),
@@ -39,7 +39,7 @@ impl<M: Measure + Copy, G: Map> Unit<M, G> {
 
     /// Reads a road as closed from now on.
     pub fn close(&mut self, road: RoadId) -> Result<(), Refusal>
-        ensures { Closing M.Order.thing M.Order.leq M.Measure.plus M.Measure.nil M.Measure.top M.Measure.cost M.Measure.decoded (G.Map.model self.old.map.below.below) road self.old self.new result }
+        ensures { Closing M.Order M.Measure.own G.Map.model road self.old self.new result }
     {
         self.close_road(road)?;
         Ok(())
@@ -47,7 +47,7 @@ impl<M: Measure + Copy, G: Map> Unit<M, G> {
 
     /// Reads a road as it is below the closures again.
     pub fn open(&mut self, road: RoadId) -> Result<(), Refusal>
-        ensures { Opening M.Order.thing M.Order.leq M.Measure.plus M.Measure.nil M.Measure.top M.Measure.cost M.Measure.decoded (G.Map.model self.old.map.below.below) road self.old self.new result }
+        ensures { Opening M.Order M.Measure.own G.Map.model road self.old self.new result }
     {
         self.open_road(road)?;
         Ok(())
@@ -55,7 +55,7 @@ impl<M: Measure + Copy, G: Map> Unit<M, G> {
 
     /// Gives a road a figure, in place of the one that it may have.
     pub fn slow(&mut self, road: RoadId, seconds: u16) -> Result<(), Refusal>
-        ensures { Slowing M.Order.thing M.Order.leq M.Measure.plus M.Measure.nil M.Measure.top M.Measure.cost M.Measure.decoded (G.Map.model self.old.map.below.below) road seconds self.old self.new result }
+        ensures { Slowing M.Order M.Measure.own G.Map.model road seconds self.old self.new result }
     {
         self.slow_road(road, seconds)?;
         Ok(())
@@ -63,7 +63,7 @@ impl<M: Measure + Copy, G: Map> Unit<M, G> {
 
     /// Takes a road's figure away: it takes as long as on the base map again.
     pub fn clear(&mut self, road: RoadId) -> Result<(), Refusal>
-        ensures { Clearing M.Order.thing M.Order.leq M.Measure.plus M.Measure.nil M.Measure.top M.Measure.cost M.Measure.decoded (G.Map.model self.old.map.below.below) road self.old self.new result }
+        ensures { Clearing M.Order M.Measure.own G.Map.model road self.old self.new result }
     {
         self.clear_road(road)?;
         Ok(())
@@ -71,28 +71,28 @@ impl<M: Measure + Copy, G: Map> Unit<M, G> {
 
     /// Closes a road on the layer of closures, which may refuse it.
     fn close_road(&mut self, road: RoadId) -> Result<(), LayerRefusal>
-        ensures { Closing M.Order.thing M.Order.leq M.Measure.plus M.Measure.nil M.Measure.top M.Measure.cost M.Measure.decoded (G.Map.model self.old.map.below.below) road self.old self.new (lifted result) }
+        ensures { Closing M.Order M.Measure.own G.Map.model road self.old self.new (lifted result) }
     {
         self.map.close(road)
     }
 
     /// Opens a road on the layer of closures, which may refuse it.
     fn open_road(&mut self, road: RoadId) -> Result<(), LayerRefusal>
-        ensures { Opening M.Order.thing M.Order.leq M.Measure.plus M.Measure.nil M.Measure.top M.Measure.cost M.Measure.decoded (G.Map.model self.old.map.below.below) road self.old self.new (lifted result) }
+        ensures { Opening M.Order M.Measure.own G.Map.model road self.old self.new (lifted result) }
     {
         self.map.open(road)
     }
 
     /// Slows a road on the layer of slowdowns, which may refuse it.
     fn slow_road(&mut self, road: RoadId, seconds: u16) -> Result<(), LayerRefusal>
-        ensures { Slowing M.Order.thing M.Order.leq M.Measure.plus M.Measure.nil M.Measure.top M.Measure.cost M.Measure.decoded (G.Map.model self.old.map.below.below) road seconds self.old self.new (lifted result) }
+        ensures { Slowing M.Order M.Measure.own G.Map.model road seconds self.old self.new (lifted result) }
     {
         self.map.below.slow(road, seconds)
     }
 
     /// Clears a road on the layer of slowdowns, which may refuse it.
     fn clear_road(&mut self, road: RoadId) -> Result<(), LayerRefusal>
-        ensures { Clearing M.Order.thing M.Order.leq M.Measure.plus M.Measure.nil M.Measure.top M.Measure.cost M.Measure.decoded (G.Map.model self.old.map.below.below) road self.old self.new (lifted result) }
+        ensures { Clearing M.Order M.Measure.own G.Map.model road self.old self.new (lifted result) }
     {
         self.map.below.clear(road)
     }
