@@ -2,6 +2,7 @@
 #![tactic(auto)]
 
 ghost use Rattle.std.specs.Prelude.{◌≡◌, not, ◌&&◌};
+ghost use Rattle.map.specs.Model.{is_in};
 ghost use Rattle.survey.specs.Counts.{crosses, places_in, roads_leaving};
 
 use fringe::Place;
@@ -12,7 +13,7 @@ pub fn places_in<M: Map>(map: &M, district: District) -> usize
     ensures { result ≡ places_in (M.Map.model map.now) district.0 }
 {
     (0..map.places() as u16)
-        .filter(|&p| map.is_in(district, Place(p)))
+        .filter(|&p| counts(map, district, p))
         .count()
 }
 
@@ -23,6 +24,13 @@ pub fn roads_leaving<M: Map>(map: &M, district: District) -> usize
     (0..map.roads() as u16)
         .filter(|&r| leaves(map, district, RoadId(r)))
         .count()
+}
+
+/// Whether the place of a number is one of the district.
+fn counts<M: Map>(map: &M, district: District, number: u16) -> bool
+    ensures { result ≡ is_in (M.Map.model map.now) district.0 number }
+{
+    map.is_in(district, Place(number))
 }
 
 /// Whether a road leaves the district.
