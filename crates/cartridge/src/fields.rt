@@ -115,7 +115,7 @@ impl<'a> Fields<'a> {
     pub(crate) fn road(&self, number: RoadId) -> Option<Road>
         ensures { result ≡ cond (nat_lt number.0 (roads self.now.bytes.now)) (Some (road_of self.now.bytes.now number.0)) None }
     {
-        self.roads().get(usize::from(number.0)).map(road_in)
+        self.roads().get(usize::from(number)).map(road_in)
     }
 
     /// The place at which an arrival's road ends, if it is a road's number.

@@ -52,7 +52,7 @@ impl<'a> Map for Cartridge<'a> {
 
     fn district(&self, place: Place) -> Option<District> {
         let districts = self.fields().districts();
-        districts.get(usize::from(place.0)).copied().map(District)
+        districts.get(usize::from(place)).copied().map(District)
     }
 
     fn road(&self, number: RoadId) -> Option<Road> {

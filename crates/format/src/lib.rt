@@ -55,9 +55,9 @@ impl Refusal {
             | Refusal::WrongTag(offset)
             | Refusal::WrongLength(offset)
             | Refusal::WrongCount(offset) => offset,
-            Refusal::NoSuchDistrict(place) => usize::from(place.0),
-            Refusal::EmptyDistrict(district) => usize::from(district.0),
-            Refusal::WrongRoad(road) => usize::from(road.0),
+            Refusal::NoSuchDistrict(place) => usize::from(place),
+            Refusal::EmptyDistrict(district) => usize::from(district),
+            Refusal::WrongRoad(road) => usize::from(road),
             Refusal::WrongArrival(index) => index,
         }
     }

@@ -84,7 +84,7 @@ fn enter<C: Order + Copy>(row: &mut [Option<C>], p: usize, cost: C) {
 /// Takes what is held at a place out of a row.
 fn leave<C: Copy>(row: &mut [Option<C>], taken: Option<(Place, C)>) {
     if let Some((place, _)) = taken {
-        if let Some(held) = row.get_mut(usize::from(place.0)) {
+        if let Some(held) = row.get_mut(usize::from(place)) {
             *held = None;
         }
     }

@@ -3,7 +3,7 @@ use fringe::place::Place;
 use map::numbers::{District, RoadId};
 
 /// A call on a unit.
-#[derive(Clone, Copy)]
+#[derive(Clone, Copy, PartialEq, Eq, Debug)]
 pub enum Call {
     Prepare(District),
     Close(RoadId),
