@@ -31,6 +31,7 @@ pub enum Refusal {
 
 impl Refusal {
     /// The refusal's number.
+    // A match, since a case that carries something has no discriminant to read it from.
     pub fn number(self) -> u8
         ensures { result ≡ number_of self }
     {

@@ -14,6 +14,7 @@ pub struct Pair {
     pub second: u32,
 }
 
+// Not a derived order: it would tell apart pairs that stand for one thing.
 impl Order for Pair {
     ghost Thing = { Rank };
 

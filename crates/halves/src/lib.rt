@@ -1,4 +1,7 @@
 //! The steps of one side of a search, over any measure, map and fringe, with the labels in a lent row.
+//
+// A row and its fringe go together through these functions as two arguments. As fields of one struct they would owe, at each
+// function, two clauses that they are still the lender's, in place of the two, `agree` and `steady`, that it would save.
 #![tactic(auto)]
 
 pub mod beginning;

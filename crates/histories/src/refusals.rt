@@ -24,6 +24,7 @@ pub enum Refusal {
 
 impl Refusal {
     /// The refusal's number.
+    // A match, since one case carries a refusal with a number of its own.
     pub fn number(self) -> u8
         ensures { result ≡ number_of self }
     {

@@ -28,6 +28,7 @@ impl Kind for RoadId {
 
     ghost well = { λ own m. closing_well (λ r. is_some (own r)) m };
 
+    // A call is data, and each of its two cases says one thing.
     fn road_named(call: ClosureCall) -> RoadId {
         match call {
             ClosureCall::Close(road) | ClosureCall::Open(road) => road,

@@ -30,6 +30,7 @@ impl Kind for Slowdown {
 
     ghost well = { slowing_well };
 
+    // A call is data, and each of its two cases says one thing.
     fn road_named(call: SlowdownCall) -> RoadId {
         match call {
             SlowdownCall::Slow(road, _) | SlowdownCall::Clear(road) => road,

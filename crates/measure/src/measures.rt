@@ -23,6 +23,8 @@ pub trait Measure: Order + Sized {
 
     ghost decoded: { ℕ → Self };
 
+    // The laws are promises of `zero` and `add`, and no law of the trait: every function that states them has them from a call.
+
     /// The cost of no road at all.
     fn zero() -> Self
         ensures exact { result ≡ nil }

@@ -68,6 +68,7 @@ impl Measure for Steepness {
 }
 
 /// Steepness keeps the laws of a measure: there is nothing to run, and the promise is all.
+// One for each measure: a generic one would be handed the laws that it promises.
 fn lawful()
     ensures { CostLaws per_mille_of nat_le steeper (steep 0) (steep 65535) (λ _ steepness. steep steepness) per_mille_of }
 {}

@@ -67,6 +67,7 @@ impl Measure for Time {
 }
 
 /// Time keeps the laws of a measure: there is nothing to run, and the promise is all.
+// One for each measure: a generic one would be handed the laws that it promises.
 fn lawful()
     ensures { CostLaws seconds_of nat_le add_time (time 0) (time 4294967295) (λ seconds _. time seconds) seconds_of }
 {}

@@ -5,6 +5,7 @@ ghost use Rattle.routes.specs.Parts.{paid, origin_in, waiting, final_cost, finis
 use map::numbers::RoadId;
 
 /// Where a label comes from: the side's own start, or a road.
+// Not an `Option` of a road: a start is a place to come from, and nothing is absent.
 #[derive(Clone, Copy, PartialEq, Eq, Debug)]
 pub enum Origin {
     Start,

@@ -16,6 +16,7 @@ pub struct Question<'a, G, B> {
 }
 
 /// Which way a side goes: along the roads from the start, or against them from the goal.
+// An enum with two matches of two lines: a closure for each side would have to carry its contract through every turn.
 #[derive(Clone, Copy, PartialEq, Eq, Debug)]
 pub enum Way {
     Forward,

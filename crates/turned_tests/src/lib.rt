@@ -19,7 +19,7 @@ mod tests {
         Some(map.road(RoadId(number))?.end)
     }
 
-    // The places 0 1 2 stand over 3 4 5.
+    // The places 0 1 2 stand over 3 4 5. The tests of the grid itself have a grid of their own: tests of two crates share none.
     fn two_rows_of_three() -> Result<Grid, Fail> {
         Ok(Grid::new(2, 3, 2, 40, 15)?)
     }

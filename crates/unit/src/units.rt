@@ -69,6 +69,9 @@ impl<M: Measure + Copy, G: Map> Unit<M, G> {
         Ok(())
     }
 
+    // The four calls on a layer are alike but for the layer's call: each is that one line, and a closure in its place would
+    // need the call's contract written out.
+
     /// Closes a road on the layer of closures, which may refuse it.
     fn close_road(&mut self, road: RoadId) -> Result<(), LayerRefusal>
         ensures { Closing M.Order M.Measure.own G.Map.model road self.old self.new (lifted result) }
