@@ -21,10 +21,9 @@ pub fn lesser<M: Measure + Copy>(a: M, b: M) -> M
 pub fn upper_through<M: Measure + Copy>(label: Label<M>, cost: M, upper: M) -> M
     ensures { (start_of : ℕ → ℕ) → result ≡ through (operations M.Order M.Measure.own) (label_view start_of label) cost upper }
 {
-    match label.final_cost() {
-        Some(rest) => lesser(cost.add(rest), upper),
-        None => upper,
-    }
+    label
+        .final_cost()
+        .map_or(upper, |rest| lesser(cost.add(rest), upper))
 }
 
 /// Whether the place of a label is not settled.
