@@ -27,11 +27,6 @@ pub loop-tag-preserved : goal.loop-tag-preserved
 loop-tag-preserved c =
     (walks_on _ c.loop-tag.tag-index _ c.loop-tag.invariant.0 (omega arith) c.in_ok-offset-2.ensures, field_ends _ _ _ _ _ c.in_ok-offset-2.ensures)
 
-pub returns-then-offset-bytes : goal.returns-then-offset-bytes
-returns-then-offset-bytes c = goes_past _ c.loop-tag.tag-index c.loop-tag.invariant.0 (omega arith) c.if-offset-bytes.true
-
 pub invariant_of-result : goal.invariant_of-result
 invariant_of-result c = record { whole = all_there _ (done _ c.loop-tag.tag-index c.loop-tag.invariant.0 (omega arith) c.if-offset-bytes.false) }
 
-pub returns : goal.returns
-returns c = (done _ c.loop-tag.tag-index c.loop-tag.invariant.0 (omega arith) c.if-offset-bytes.false, refl)

@@ -13,20 +13,3 @@ loop-i-preserved g c =
           (c.loop-i.invariant.3 w) (c.in-Some.ensures.taken (c.loop-i.invariant.2 w))),
     )
 
-pub returns-in-None : goal.returns-in-None
-returns-in-None g c = record {
-  within = omega arith;
-  untouched = c.loop-i.invariant.1;
-  drained = λ w. drained_end g.C.Order.thing g.C.Order.leq (c.loop-i.invariant.3 w) (c.in-None.ensures.taken (c.loop-i.invariant.2 w));
-  well = λ w. c.in-None.ensures.well (c.loop-i.invariant.2 w);
-}
-
-pub returns : goal.returns
-returns g c =
-    let full : c.loop-i.i ≡ length c.loop-i.out = omega (arith, c.loop-i.invariant.0) in
-    record {
-      within = omega arith;
-      untouched = subst (λ n. drop n c.loop-i.out ≡ drop n c.args.out.now) full c.loop-i.invariant.1;
-      drained = λ w. drained_full g.C.Order.thing g.C.Order.leq full (c.loop-i.invariant.3 w);
-      well = c.loop-i.invariant.2;
-    }

@@ -24,14 +24,3 @@ returns g c =
       steady = λ w. record { in_order = got.well w; same_capacity = (got.taken w).same_capacity };
     }
 
-pub returns-in_err-place : goal.returns-in_err-place
-returns-in_err-place g c =
-    let o = g.C.Order in
-    let labels = c.args.labels.now in
-    let got = c.in_err-place.ensures in
-    record {
-      sized = refl;
-      labels = λ a. subst (λ y. Settling o.thing o.leq labels labels y) (sym c.from_residual.ensures) (idle o.thing o.leq a (got.taken a.in_order).answer);
-      agree = λ a. let t = got.taken a.in_order in idle_agrees o.thing o.leq a t.answer (got.well a.in_order) t.same_capacity t.rest;
-      steady = λ w. record { in_order = got.well w; same_capacity = (got.taken w).same_capacity };
-    }

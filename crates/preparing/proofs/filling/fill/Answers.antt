@@ -13,5 +13,3 @@ loop-j-preserved g c =
       | else-j-from w ↦ entered_own _ _ _ _ _ _ _ _ c.loop-j.invariant w.row-is (w.if-j-from.false ∙ c.from.ensures)
     ]
 
-pub returns : goal.returns
-returns g c = record { laws = c.own_entry-own.ensures.laws; row = entered_all _ _ _ _ _ _ _ _ c.loop-j.invariant (omega arith) }

@@ -16,13 +16,3 @@ loop-taken-preserved g c =
       (λ w. steady_on (steady_on (c.loop-taken.invariant.1 w) s.steady) c.expand.ensures.steady),
     )
 
-pub returns-in_default : goal.returns-in_default
-returns-in_default g c =
-    let s = c.in_default.ensures in
-    record {
-      ran = λ a. let was = c.loop-taken.invariant.0 a in ran_out _ _ _ _ _ _ _ was.0 (s.labels was.1) (omega arith);
-      steady = λ w. steady_on (c.loop-taken.invariant.1 w) s.steady;
-    }
-
-pub returns : goal.returns
-returns g c = record { ran = λ a. ran_full _ _ _ _ _ _ _ (c.loop-taken.invariant.0 a).0 (omega arith) (omega arith); steady = c.loop-taken.invariant.1 }

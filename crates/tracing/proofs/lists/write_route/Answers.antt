@@ -38,10 +38,6 @@ module _ {K : Type 0} {n : ℕ} {m : MapModel} {fore back : List (Label K)} {mee
       Listed (x.meet ∷ h.unspliced.others) list traced count
   second-half list traced count l e = subst (λ z. Listed z list traced count) back-trail (e (back-short (length list) l))
 
-pub returns-then-met-eq0 : goal.returns-then-met-eq0
-returns-then-met-eq0 g c = λ n x h room.
-    absurd (let z = (first-half h c.args.list.now c.trace-met.new.list c.trace-met.result room (c.trace-met.ensures.listed n)).count_is in omega (arith, z, c.if-met-eq0.true))
-
 pub returns : goal.returns
 returns g c = λ n x h room.
     let one = first-half h c.args.list.now c.trace-met.new.list c.trace-met.result room (c.trace-met.ensures.listed n) in

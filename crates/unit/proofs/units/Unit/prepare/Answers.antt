@@ -6,22 +6,6 @@ use Rattle.unit.specs.Refusing.{prepare_refusal, verdict}
 use Rattle.unit.proofs.Prepares.{goes_on, allowed, cut_length, prepare_stays, history_stays, prepare_fills, prepare_history}
 use Rattle.unit.proofs.units.Unit.prepare.Goals as goal
 
-pub returns-in_err-may_prepare : goal.returns-in_err-may_prepare
-returns-in_err-may_prepare g c =
-    let o = g.M.Order in
-    let k = g.M.Measure in
-    let base = g.G.Map.model c.args.self.now.map.below.below in
-    let p = err_from_is_err_and c.from_residual.result c.from_residual.ensures.1 in
-    let is = p.1 ∙ ap Err p.2 in
-    record {
-      done = prepare_stays o.thing o.leq k.plus k.nil k.top k.cost k.decoded base
-          (prepare_refusal base c.args.district.0 (length c.args.first.now) (length c.args.second.now) (g.F.Fringe.meaning c.args.fringe.now).capacity)
-          c.in_err-may_prepare.field-0.0 (sym c.in_err-may_prepare.was ∙ c.may_prepare.ensures ∙ ap (λ z. verdict (prepare_refusal base c.args.district.0 (length c.args.first.now) (length c.args.second.now) z)) c.capacity.ensures) c.args.district.0 c.args.self.now c.args.first.now c.args.second.now g.F.Fringe.well g.F.Fringe.meaning c.args.fringe.now
-          c.from_residual.result is;
-      history = λ h left. history_stays o.thing o.leq k.plus k.nil k.top k.cost k.decoded base h (Prepare c.args.district) c.in_err-may_prepare.field-0.0
-          c.from_residual.result is c.args.self.now.map c.args.self.now.table left;
-    }
-
 pub returns : goal.returns
 returns g c =
     let o = g.M.Order in

@@ -11,27 +11,6 @@ use Rattle.unit.proofs.Prepares.{goes_on}
 use Rattle.unit.proofs.Asks.{may_ask, may_search, question_stays, least_stays, least_cost, question_answered}
 use Rattle.unit.proofs.units.Unit.question.Goals as goal
 
-pub returns-in_err-may_ask : goal.returns-in_err-may_ask
-returns-in_err-may_ask g c =
-    let o = g.M.Order in
-    let k = g.M.Measure in
-    let base = g.G.Map.model c.args.self.now.map.below.below in
-    let p = err_from_is_err_and c.from_residual.result c.from_residual.ensures.1 in
-    let is = p.1 ∙ ap Err p.2 in
-    let e = c.in_err-may_ask.field-0.0 in
-    record {
-      rules = question_stays
-          (question_refusal base c.args.start.0 c.args.goal.0 (length c.args.fore.now) (length c.args.back.now) (g.F.Fringe.meaning c.args.near.now).capacity (g.N.Fringe.meaning c.args.far.now).capacity (length c.args.list.now))
-          e
-          (sym c.in_err-may_ask.was ∙ c.may_ask.ensures
-          ∙ ap₂ (λ a b. verdict (question_refusal base c.args.start.0 c.args.goal.0 (length c.args.fore.now) (length c.args.back.now) a b (length c.args.list.now))) c.capacity.ensures c.capacity-2.ensures)
-          (by_the_rules o.thing o.leq k.plus k.nil k.top k.cost k.decoded base c.args.self.now c.args.start.0 c.args.goal.0)
-          base.places g.F.Fringe.well g.F.Fringe.meaning g.N.Fringe.well g.N.Fringe.meaning
-          (record { fore = c.args.fore.now; back = c.args.back.now; near = c.args.near.now; far = c.args.far.now; list = c.args.list.now })
-          c.from_residual.result is;
-      least = λ h left. least_stays o.thing o.leq k.plus k.nil k.cost (map_after base h) c.args.start.0 c.args.goal.0 c.args.list.now e c.from_residual.result is;
-    }
-
 pub returns : goal.returns
 returns g c =
     let o = g.M.Order in

@@ -8,7 +8,3 @@ returns-clause-emptied g c = record {
   empty = free_cells _ (c.fill.ensures.after (elim [ None ↦ λ _. refl | Some _ ↦ absurd ]));
 }
 
-pub returns-clause-order : goal.returns-clause-order
-returns-clause-order g c = rows_empty g.C.Order.thing g.C.Order.leq c.fill.new.self c.fill-2.new.self
-    (free_cells _ (c.fill.ensures.after (elim [ None ↦ λ _. refl | Some _ ↦ absurd ])))
-    (free_cells _ (c.fill-2.ensures.after (elim [ None ↦ λ _. refl | Some _ ↦ absurd ])))
