@@ -1,7 +1,6 @@
 pub mod Entries
 pub mod Finding
 pub mod Halving
-pub mod Judging
 pub mod Listed
 pub mod Rises
 pub mod Walking

@@ -1,5 +1,4 @@
 pub mod Alikes
-pub mod Offers
 pub mod Settled
 pub mod ExpandIs
 pub mod MeetingIs

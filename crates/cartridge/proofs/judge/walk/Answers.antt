@@ -3,7 +3,7 @@ use Rattle.format.specs.Bytes.{places, roads}
 use Rattle.format.specs.Reading.{fields}
 use Rattle.format.proofs.Accepted.{all_there}
 use Rattle.format.proofs.Verdicts.{Left, step}
-use Rattle.cartridge.proofs.Walking.{walks_on, refuses_with, leaves_with, field_ends, done, goes_past}
+use Rattle.cartridge.proofs.Walking.{walks_on, refuses_with, leaves_with, field_ends, done}
 use Rattle.cartridge.proofs.judge.walk.Goals as goal
 
 -- all fields, by the counts
@@ -29,4 +29,3 @@ loop-tag-preserved c =
 
 pub invariant_of-result : goal.invariant_of-result
 invariant_of-result c = record { whole = all_there _ (done _ c.loop-tag.tag-index c.loop-tag.invariant.0 (omega arith) c.if-offset-bytes.false) }
-

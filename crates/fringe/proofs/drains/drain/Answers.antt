@@ -1,5 +1,5 @@
-use Rattle.std.proofs.Common.{◌≡◌, ◌<◌, length, drop, subst, arith, length-set}
-use Rattle.fringe.proofs.Drawing.{past_set, drawn_more, drained_end, drained_full}
+use Rattle.std.proofs.Common.{◌<◌, length, arith, length-set}
+use Rattle.fringe.proofs.Drawing.{past_set, drawn_more}
 use Rattle.fringe.proofs.drains.drain.Goals as goal
 
 pub loop-i-preserved : goal.loop-i-preserved
@@ -12,4 +12,3 @@ loop-i-preserved g c =
           drawn_more g.C.Order.thing g.C.Order.leq {after = g.F.Fringe.meaning c.take.new.self} c.in-Some.best fits
           (c.loop-i.invariant.3 w) (c.in-Some.ensures.taken (c.loop-i.invariant.2 w))),
     )
-

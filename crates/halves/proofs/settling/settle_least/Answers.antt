@@ -1,9 +1,9 @@
-use Rattle.std.proofs.Common.{length, sym, refl, ap, ◌∙◌, subst, subst₂, length-set}
+use Rattle.std.proofs.Common.{length, sym, ap, ◌∙◌, subst, subst₂, length-set}
 use Rattle.halves.specs.Labels.{spot}
 use Rattle.routes.specs.Parts.{finished}
 use Rattle.halves.specs.Agreement.{Agree}
 use Rattle.halves.specs.Settling.{Settling}
-use Rattle.halves.proofs.Settled.{idle, idle_agrees, settles, settled_agrees}
+use Rattle.halves.proofs.Settled.{settles, settled_agrees}
 use Rattle.halves.proofs.settling.settle_least.Goals as goal
 
 pub returns : goal.returns
@@ -23,4 +23,3 @@ returns g c =
           (settled_agrees o.thing o.leq a p c.in_ok-place.field-0-1 t.answer (got.well a.in_order) t.same_capacity t.rest);
       steady = λ w. record { in_order = got.well w; same_capacity = (got.taken w).same_capacity };
     }
-

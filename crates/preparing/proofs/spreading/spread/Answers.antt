@@ -1,7 +1,7 @@
-use Rattle.std.proofs.Common.{refl, arith}
+use Rattle.std.proofs.Common.{refl}
 use Rattle.preparing.specs.Runs.{begun}
 use Rattle.halves.proofs.Steadying.{steady_on}
-use Rattle.preparing.proofs.Turns.{one_more, ran_out, ran_full}
+use Rattle.preparing.proofs.Turns.{one_more}
 use Rattle.preparing.proofs.spreading.spread.Goals as goal
 
 pub loop-taken-init : goal.loop-taken-init
@@ -15,4 +15,3 @@ loop-taken-preserved g c =
           (one_more _ _ _ _ _ _ _ c.in-Some.best.0 c.in-Some.best.1 was.0 (s.labels was.1) c.expand.ensures.labels c.note.ensures, c.expand.ensures.agree (s.agree was.1))),
       (λ w. steady_on (steady_on (c.loop-taken.invariant.1 w) s.steady) c.expand.ensures.steady),
     )
-

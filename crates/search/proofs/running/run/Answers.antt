@@ -6,6 +6,20 @@ use Rattle.halves.proofs.Steadying.{steady_still, steady_then}
 use Rattle.search.proofs.Turnabout.{turning, to_turn, first_move, second_move, no_round, no_more, stops, final_other, left}
 use Rattle.search.proofs.running.run.Goals as goal
 
+pub loop-round-init : goal.loop-round-init
+loop-round-init g c = (
+  λ G s t x b.
+      let o = g.M.Order in
+      let k = g.M.Measure in
+      let O = ops_of o.thing o.leq k.plus k.nil k.top in
+      let m = g.G.Map.model c.args.map.now in
+      let n = m.places in
+      no_round o.thing o.leq O n m (turned_round m) refl G s t (run O (n + n) G s t x) x b.ready.shown b.ready.agree b.ready.others_agree b.ready.sized b.ready.others_sized
+      b.no_turns refl,
+  steady_still,
+  steady_still,
+)
+
 pub loop-round-preserved : goal.loop-round-preserved
 loop-round-preserved g c = (
   λ G s t x b.

@@ -1,9 +1,7 @@
-use Rattle.std.proofs.Common.{◌-◌, length, Err, sym, ap, ◌∙◌}
+use Rattle.std.proofs.Common.{◌-◌, length, sym, ap, ◌∙◌}
 use borrow.Rule.Slice.PartMut.{mid_of}
-use Rattle.std.proofs.lemmas.Result.{err_from_is_err_and}
-use Rattle.histories.specs.declared.calls.Call.TheVariants.{Prepare}
 use Rattle.unit.specs.Refusing.{prepare_refusal, verdict}
-use Rattle.unit.proofs.Prepares.{goes_on, allowed, cut_length, prepare_stays, history_stays, prepare_fills, prepare_history}
+use Rattle.unit.proofs.Prepares.{goes_on, allowed, cut_length, prepare_fills, prepare_history}
 use Rattle.unit.proofs.units.Unit.prepare.Goals as goal
 
 pub returns : goal.returns

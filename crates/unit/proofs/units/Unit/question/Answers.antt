@@ -1,14 +1,12 @@
-use Rattle.std.proofs.Common.{length, Err, sym, refl, ap, ◌∙◌, subst, ap₂}
-use Rattle.std.proofs.lemmas.Result.{err_from_is_err_and}
+use Rattle.std.proofs.Common.{length, sym, refl, ◌∙◌, subst, ap₂}
 use Rattle.routes.specs.Asking.{given}
 use Rattle.routes.specs.Search.{ops_of, answer}
 use Rattle.table.specs.Views.{stored}
 use Rattle.asking.specs.Answers.{Answers}
-use Rattle.histories.specs.Histories.{map_after}
 use Rattle.unit.specs.Refusing.{question_refusal, verdict}
 use Rattle.unit.specs.Questions.{by_the_rules, map_now}
 use Rattle.unit.proofs.Prepares.{goes_on}
-use Rattle.unit.proofs.Asks.{may_ask, may_search, question_stays, least_stays, least_cost, question_answered}
+use Rattle.unit.proofs.Asks.{may_ask, may_search, least_cost, question_answered}
 use Rattle.unit.proofs.units.Unit.question.Goals as goal
 
 pub returns : goal.returns
