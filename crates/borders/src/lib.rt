@@ -24,6 +24,7 @@ fn leaves<G: Map>(map: &G, district: District, number: RoadId) -> bool
 fn some_leaves<G: Map>(map: &G, district: District, u: Place) -> bool
     ensures { result ≡ some_leaves (G.Map.model map.now) district.0 (leaving (G.Map.model map.now) u.0) }
 {
+    // Of `any` over these roads the check does not find the answer, and of this loop it does.
     for number in map.departures(u) {
         if leaves(map, district, number) {
             return true;

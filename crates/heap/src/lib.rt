@@ -235,6 +235,6 @@ impl<'a, C: Order + Copy> Rows<'a, C> {
         ensures { Noted self.old self.new position }
     {
         let entry = self.entries[position];
-        self.positions[usize::from(entry.0.0)] = position as u16;
+        self.positions[usize::from(entry.0)] = position as u16;
     }
 }

@@ -6,7 +6,7 @@ use super::*;
 use std::test::Fail;
 
 /// Whole minutes, compared as numbers.
-#[derive(Clone, Copy, PartialEq, Eq, Debug)]
+#[derive(Clone, Copy, PartialEq, Eq, PartialOrd, Ord, Debug)]
 struct Minutes(u32);
 
 impl Order for Minutes {
@@ -19,7 +19,7 @@ impl Order for Minutes {
     ghost ordered = { Prim.search rules };
 
     fn less(&self, other: &Self) -> bool {
-        self.0 < other.0
+        self < other
     }
 }
 

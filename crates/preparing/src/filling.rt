@@ -50,6 +50,7 @@ fn entry_by<M: Measure + Copy, G: Map>(map: &G, labels: &[Label<M>], first: Opti
 fn lowest<G: Map>(map: &G, district: District) -> Option<Place>
     ensures { Lowest (G.Map.model map.now) district.0 result }
 {
+    // Of `find` over these places the check does not learn that what it found is the lowest.
     for i in 0..map.places() {
         let place = Place(i as u16);
         if map.is_in(district, place) {
@@ -64,13 +65,9 @@ fn own_entry<M: Measure + Copy, G: Map>(map: &G, district: District) -> Entry
     ensures laws { Lawful M.Order M.Measure.own }
     ensures own { OwnEntry M.Order.thing M.Measure.decoded M.Measure.nil (G.Map.model map.now) district.0 result }
 {
-    let number = written(M::zero());
-    match lowest(map, district) {
-        Some(place) => Entry {
-            number,
-            pair: Some((place, place)),
-        },
-        None => Entry { number, pair: None },
+    Entry {
+        number: written(M::zero()),
+        pair: lowest(map, district).map(|place| (place, place)),
     }
 }
 

@@ -33,10 +33,10 @@ pub fn root_of<C: Copy, G: Map>(map: &G, labels: &[Label<C>], place: Place) -> P
 {
     let mut at = place;
     for _ in 0..=labels.len() {
-        match previous(map, label_at(labels, at)) {
-            Some(u) => at = u,
-            None => return at,
-        }
+        let Some(u) = previous(map, label_at(labels, at)) else {
+            return at;
+        };
+        at = u;
     }
     at
 }

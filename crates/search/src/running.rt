@@ -45,14 +45,14 @@ pub fn run<M: Measure + Copy, G: Map, B: Map, F: Fringe<M>, N: Fringe<M>>(
     let turned = Turned { of: map };
     let mut found = begun;
     for _round in 0..fore.len() {
-        match turn(map, along, fore, near, back, far, found) {
-            Some(next) => found = swapped(next),
-            None => return found,
-        }
-        match turn(&turned, against, back, far, fore, near, found) {
-            Some(next) => found = swapped(next),
-            None => return found,
-        }
+        let Some(next) = turn(map, along, fore, near, back, far, found) else {
+            return found;
+        };
+        found = swapped(next);
+        let Some(next) = turn(&turned, against, back, far, fore, near, found) else {
+            return found;
+        };
+        found = swapped(next);
     }
     found
 }

@@ -21,7 +21,7 @@ pub fn trace<C: Copy, G: Map>(
     ensures listed { (n : ℕ) → Short n (length list.old) (trail (suc n) (labels_view (start_at (G.Map.model map.now)) labels.now) from.0) → Listed (trail (suc n) (labels_view (start_at (G.Map.model map.now)) labels.now) from.0) list.old list.new result }
 {
     let mut at = from;
-    // By index, since the index is also the count that is answered.
+    // By index, which is also the count that is answered: `enumerate` would only add a name.
     for i in 0..list.len() {
         let Some(origin) = label_at(labels, at).origin() else {
             return i;

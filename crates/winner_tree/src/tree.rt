@@ -129,7 +129,7 @@ impl<'a, C: Order + Copy> Fringe<C> for WinnerTree<'a, C> {
 
     fn take(&mut self) -> Option<(Place, C)> {
         let first = self.least()?;
-        let p = usize::from(first.0.0);
+        let p = usize::from(first.0);
         // In a tree that is out of order the winner may be a place that does not fit.
         if p < self.costs.len() {
             self.write(p, None);

@@ -9,10 +9,10 @@ loop-init g c = λ k e.
     let same : k ≡ suc (length c.args.labels.now) = omega arith in
     ap (λ z. root z (labels_view (start_at (g.G.Map.model c.args.map.now)) c.args.labels.now) c.args.place.0) same
 
-pub returns-in-None : goal.returns-in-None
-returns-in-None g c =
+pub returns-in_default : goal.returns-in_default
+returns-in_default g c =
     let k = length c.args.labels.now - c.loop.counter in
-    sym (begins_here (start_at (g.G.Map.model c.args.map.now)) c.args.labels.now c.label_at.result k c.loop.at.0 c.label_at.ensures c.in-None.ensures)
+    sym (begins_here (start_at (g.G.Map.model c.args.map.now)) c.args.labels.now c.label_at.result k c.loop.at.0 c.label_at.ensures c.in_default.ensures)
     ∙ c.loop.invariant (suc k) (omega arith)
 
 pub loop-preserved : goal.loop-preserved

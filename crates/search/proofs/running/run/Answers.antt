@@ -36,13 +36,13 @@ loop-round-preserved g c = (
       let h = c.in-Some.ensures.taken b.laws (start_at (turned_round m)) G s t r.state b.along_guided (turning o.thing o.leq O r k.cost _ b.grounds.along b.grounds.along_level (omega (arith, few, inside))) in
       let r₁ = first_move o.thing o.leq O n m (turned_round m) refl G s t y i r c.turn.auto.labels h c.swapped-found.result c.swapped-found.ensures in
       let h₁ = c.in-Some-turn.ensures.taken b.laws (start_at m) (flip G) t s r₁.state b.against_guided (turning o.thing o.leq O r₁ k.cost _ b.grounds.against b.grounds.against_level (omega (arith, few, inside))) in
-      second_move o.thing o.leq O n m (turned_round m) refl G s t y i r₁ c.turn-in-loop-round.auto.labels h₁ c.swapped-found-in-Some-turn.result c.swapped-found-in-Some-turn.ensures,
+      second_move o.thing o.leq O n m (turned_round m) refl G s t y i r₁ c.turn-in-loop-round.auto.labels h₁ c.swapped-found-in-loop-round.result c.swapped-found-in-loop-round.ensures,
   steady_then c.loop-round.invariant.1 c.in-Some.ensures.steady,
   steady_then c.loop-round.invariant.2 c.in-Some-turn.ensures.steady,
 )
 
-pub returns-in-None : goal.returns-in-None
-returns-in-None g c = record {
+pub returns-in_default : goal.returns-in_default
+returns-in_default g c = record {
   left = λ G s t x b.
       let o = g.M.Order in
       let k = g.M.Measure in
@@ -54,14 +54,14 @@ returns-in-None g c = record {
       let few : n < 2000 = omega (arith, (g.G.Map.sound c.args.map.now).few_places) in
       let inside : i < n = omega (arith, c.loop-round-test.true, b.ready.sized) in
       let r = to_turn o.thing o.leq O n m (turned_round m) refl G s t y i inside (c.loop-round.invariant.0 G s t x b) in
-      let h = c.in-None.ensures.taken b.laws (start_at (turned_round m)) G s t r.state b.along_guided (turning o.thing o.leq O r k.cost _ b.grounds.along b.grounds.along_level (omega (arith, few, inside))) in
+      let h = c.in_default.ensures.taken b.laws (start_at (turned_round m)) G s t r.state b.along_guided (turning o.thing o.leq O r k.cost _ b.grounds.along b.grounds.along_level (omega (arith, few, inside))) in
       left o.thing o.leq O (stops o.thing o.leq O r h);
-  near = steady_then c.loop-round.invariant.1 c.in-None.ensures.steady;
+  near = steady_then c.loop-round.invariant.1 c.in_default.ensures.steady;
   far = c.loop-round.invariant.2;
 }
 
-pub returns-in-None-turn : goal.returns-in-None-turn
-returns-in-None-turn g c = record {
+pub returns-in_default-turn : goal.returns-in_default-turn
+returns-in_default-turn g c = record {
   left = λ G s t x b.
       let o = g.M.Order in
       let k = g.M.Measure in
@@ -75,10 +75,10 @@ returns-in-None-turn g c = record {
       let r = to_turn o.thing o.leq O n m (turned_round m) refl G s t y i inside (c.loop-round.invariant.0 G s t x b) in
       let h = c.in-Some.ensures.taken b.laws (start_at (turned_round m)) G s t r.state b.along_guided (turning o.thing o.leq O r k.cost _ b.grounds.along b.grounds.along_level (omega (arith, few, inside))) in
       let r₁ = first_move o.thing o.leq O n m (turned_round m) refl G s t y i r c.turn.auto.labels h c.swapped-found.result c.swapped-found.ensures in
-      let h₁ = c.in-None-turn.ensures.taken b.laws (start_at m) (flip G) t s r₁.state b.against_guided (turning o.thing o.leq O r₁ k.cost _ b.grounds.against b.grounds.against_level (omega (arith, few, inside))) in
+      let h₁ = c.in_default-turn.ensures.taken b.laws (start_at m) (flip G) t s r₁.state b.against_guided (turning o.thing o.leq O r₁ k.cost _ b.grounds.against b.grounds.against_level (omega (arith, few, inside))) in
       left o.thing o.leq O (final_other o.thing o.leq O (stops o.thing o.leq O r₁ h₁));
   near = steady_then c.loop-round.invariant.1 c.in-Some.ensures.steady;
-  far = steady_then c.loop-round.invariant.2 c.in-None-turn.ensures.steady;
+  far = steady_then c.loop-round.invariant.2 c.in_default-turn.ensures.steady;
 }
 
 pub returns : goal.returns
