@@ -13,7 +13,7 @@ pub fn drain<C: Order + Copy, F: Fringe<C>>(fringe: &mut F, out: &mut [(Place, C
     ensures drained { F.Fringe.well fringe.old → Drained C.Order.thing C.Order.leq (F.Fringe.meaning fringe.old) (F.Fringe.meaning fringe.new) result out.new }
     ensures well { F.Fringe.well fringe.old → F.Fringe.well fringe.new }
 {
-    // By index, which is also the count that is answered: `enumerate` would only add a name.
+    // By index, since the index is also the count that is answered.
     for i in 0..out.len() {
         match fringe.take() {
             Some(best) => out[i] = best,
