@@ -67,6 +67,7 @@ fn walk(bytes: &[u8]) -> Result<Fields<'_>, Refusal>
 fn keeps_limits(road: Road, places: u16) -> bool
     ensures { result ≡ within_limits places road }
 {
+    // Numbers of places against a count of them, which is no place.
     road.start.0 < places
         && road.end.0 < places
         && road.start != road.end

@@ -63,6 +63,7 @@ impl Spot<'_> {
         let grid = self.grid;
         let row = self.row();
         let column = self.column();
+        // Each direction is a test and a sum of its own.
         match direction {
             Direction::North if row > 0 => Some(grid.place_at(row - 1, column)),
             Direction::West if column > 0 => Some(grid.place_at(row, column - 1)),

@@ -19,6 +19,7 @@ impl Grid {
     pub(crate) fn spot(&self, place: Place) -> Option<Spot<'_>>
         ensures { MatchOption result (place_count (figures_of self.now) ≤ place.0) (λ s. (s.grid.now ≡ self.now) × (s.place ≡ place.0)) }
     {
+        // A number against a count, and no `then`: its closure would not know that the place is there.
         if place.0 < self.place_count() {
             Some(Spot {
                 grid: self,
