@@ -1,5 +1,7 @@
 //! The places along the origins of a label.
 ghost use Rattle.std.specs.Prelude.{◌≡◌, ℕ, suc, ◌≤◌, length};
+ghost use Rattle.routes.specs.Parts.{origin_in};
+ghost use Rattle.halves.specs.Labels.{spot};
 ghost use Rattle.routes.specs.Labels.{start_at, labels_view};
 ghost use Rattle.routes.specs.Search.{trail};
 ghost use Rattle.tracing.specs.Listings.{Listed, Short};
@@ -8,6 +10,13 @@ use fringe::place::Place;
 use halves::{label_at, start_of};
 use map::maps::Map;
 use routes::labels::{Label, Origin};
+
+/// Where the label of a place comes from.
+fn origin_at<C: Copy>(labels: &[Label<C>], at: Place) -> Option<Origin>
+    ensures { result ≡ origin_in (spot labels.now at.0) }
+{
+    label_at(labels, at).origin()
+}
 
 /// Writes down the places from `from` along the origins to the side's start, and answers how many they are. It stops where
 /// the list is full.
@@ -23,7 +32,7 @@ pub fn trace<C: Copy, G: Map>(
     let mut at = from;
     // By index, which is also the count that is answered: `enumerate` would only add a name.
     for i in 0..list.len() {
-        let Some(origin) = label_at(labels, at).origin() else {
+        let Some(origin) = origin_at(labels, at) else {
             return i;
         };
         list[i] = at;
