@@ -23,8 +23,13 @@ fn digit(b: u8) -> anyhow::Result<u8>
 /// The bytes that a row of hexadecimal digits spells.
 fn decode(heap: Global, hex: &str) -> anyhow::Result<Vec<u8>> {
     let mut bytes = Vec::new(heap);
-    for [high, low] in hex.as_bytes().as_chunks::<2>().0 {
+    let (pairs, rest) = hex.as_bytes().as_chunks::<2>();
+    for [high, low] in pairs {
         bytes.push(digit(*high)? * 16 + digit(*low)?)?;
+    }
+    // A last digit without a second spells no byte, but it has to be one.
+    for last in rest {
+        digit(*last)?;
     }
     Ok(bytes)
 }
