@@ -6,3 +6,4 @@ mod asking;
 
 pub use answers::{Answer, Found};
 pub use asking::ask;
+pub use search::Question;

@@ -3,8 +3,8 @@ use fringe::place::Place;
 use map::numbers::District;
 use table::Table;
 
-/// From where to where, over the map as it reads now. Districts, borders and the table are those of the base map, and
-/// stored pairs may be used where both layers are empty.
+/// From where to where. The map is read as it is now, districts, borders and the table are those of the base map, and stored
+/// pairs are used only if `pairs` says so.
 #[derive(Drop)]
 pub struct Question<'a, G, B> {
     pub map: &'a G,
