@@ -1,14 +1,14 @@
 -- The winner of a tournament in order is the first of all places that are held.
 use Rattle.std.proofs.Common.{◌≡◌, ℕ, zero, suc, ◌+◌, ◌-◌, ◌*◌, ◌/◌, ◌<◌, ◌≤◌, Bool, true, false, ◌⊎◌, List, length, get_or, Some, None, Option, sym, refl, ap, ◌∙◌, subst, inl, inr, ⊎_elim, arith}
 use Rattle.std.proofs.lemmas.List.{get_or_past}
-use Rattle.std.proofs.lemmas.Bool.{cases_eq, cases_lt, cond_both}
+use Rattle.std.proofs.lemmas.Bool.{cases_eq, cases_lt, cond_both, cond-true, cond-false, eq-eqb, ne_eqb}
 use Rattle.std.specs.Option.{option_map}
 use Rattle.fringe.specs.Orders.{TotalOrder}
 use Rattle.fringe.specs.Entries.{ahead}
 use Rattle.fringe.specs.Fringes.{Least}
 use Rattle.fringe.proofs.Ranks.{Ranked, entries_ranked, costs_leq, costs_less}
 use Rattle.fringe.specs.declared.place.Place.{Place}
-use Rattle.winner_tree.specs.Tournaments.{meaning_of, entrant, out_of, winner_of, Decided, InOrder}
+use Rattle.winner_tree.specs.Tournaments.{meaning_of, entrant, out_of, champion_of, winner_of, Decided, InOrder}
 use Rattle.winner_tree.proofs.Replays.{out_leaf, out_high}
 
 -- Who comes out of a leaf is its place, with what that holds.
@@ -117,11 +117,18 @@ module _ {C T : Type 0} (thing : C → T) {leq : T → T → Bool} (o : TotalOrd
         let l = root_leads q (inside q d held) in
         subst (λ h. leads (Some r) (entrant q h) ≡ true) held (subst (λ w. leads w (entrant q (get_or costs q None)) ≡ true) (sym won) l)
 
-    -- The winner is what a fringe with this row of costs has for its least.
-    pub root_first : (w : Option (Place × C)) → 0 < length costs → w ≡ out_of costs winners 1 → Least thing leq (meaning_of costs) w
+    root_first : (w : Option (Place × C)) → 0 < length costs → w ≡ out_of costs winners 1 → Least thing leq (meaning_of costs) w
     root_first None some won = none_held won
     root_first (Some r) some won = record {
       there = ap (option_map thing) (from_leaf (2 * length costs) 1 r (omega arith) (omega arith) (omega arith) (sym won));
       least = λ q d held. costs_leq thing leq r (record { 0 = q }, d) (ahead_all r won q d held);
       lowest = λ q d held lower. costs_less thing leq r (record { 0 = q }, d) (ahead_all r won q d held) lower;
     }
+
+    -- The winner is what a fringe with this row of costs has for its least.
+    pub champion_least : (w : Option (Place × C)) → w ≡ champion_of costs winners → Least thing leq (meaning_of costs) w
+    champion_least w won =
+        ⊎_elim
+        (λ (none : length costs ≡ 0). subst (λ x. Least thing leq (meaning_of costs) x) (sym (won ∙ cond-true _ _ _ (eq-eqb _ 0 none))) (λ q. get_or_past costs q None (omega arith)))
+        (λ some. root_first w (omega (arith, some)) (won ∙ cond-false _ _ _ (ne_eqb _ 0 some)))
+        (cases_eq (length costs) 0)

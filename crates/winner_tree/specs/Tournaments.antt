@@ -1,6 +1,6 @@
 -- A tournament between the places below n. Node n + p is the leaf of the place p, and the nodes 1 to n - 1 are matches:
 -- the match at node i is between those who come out of the nodes 2 i and 2 i + 1. Node 1 is the root.
-use Rattle.std.specs.Prelude.{◌≡◌, ℕ, ◌+◌, ◌-◌, ◌*◌, ◌<◌, min, Bool, cond, List, length, Some, None, Option, ◌≢◌, nat_lt, slice_index_or}
+use Rattle.std.specs.Prelude.{◌≡◌, ℕ, ◌+◌, ◌-◌, ◌*◌, ◌<◌, min, Bool, true, cond, not, List, length, Some, None, Option, ◌==◌, ◌≢◌, nat_lt, slice_index_or}
 use Rattle.fringe.specs.declared.place.Place.{Place}
 use Rattle.fringe.specs.Entries.{ahead}
 use Rattle.fringe.specs.Fringes.{Meaning}
@@ -23,6 +23,10 @@ abbrev pub out_of : {C : Type 0} → List (Option C) → List (Option (Place × 
 out_of costs winners k =
     cond (nat_lt k (length costs)) (slice_index_or winners k None) (entrant (k - length costs) (slice_index_or costs (k - length costs) None))
 
+-- Who wins the tournament: who comes out of the root, if there is a place to play for.
+abbrev pub champion_of : {C : Type 0} → List (Option C) → List (Option (Place × C)) → Option (Place × C)
+champion_of costs winners = cond (length costs == 0) None (out_of costs winners 1)
+
 module _ {C T : Type 0} (thing : C → T) (leq : T → T → Bool) where
   -- The winner of a match, for which either side may be missing.
   abbrev pub winner_of : Option (Place × C) → Option (Place × C) → Option (Place × C)
@@ -33,6 +37,11 @@ module _ {C T : Type 0} (thing : C → T) (leq : T → T → Bool) where
   -- Who wins the match at node i.
   abbrev pub match_at : List (Option C) → List (Option (Place × C)) → ℕ → Option (Place × C)
   match_at costs winners i = winner_of (out_of costs winners (2 * i)) (out_of costs winners (2 * i + 1))
+
+  -- Whether the cost c is less than what is held, if anything is.
+  abbrev pub cheaper : C → Option C → Bool
+  cheaper c None = true
+  cheaper c (Some d) = not (leq (thing d) (thing c))
 
   -- The match at node i was played. Here and below, `out` says who comes out of each node.
   abbrev pub Played : (ℕ → Option (Place × C)) → ℕ → Type 0

@@ -1,8 +1,8 @@
 //! The winner tree.
-ghost use Rattle.std.specs.Prelude.{◌≡◌, ◌*◌, ◌/◌, ◌<◌, ◌≤◌, length, None, slice_set};
+ghost use Rattle.std.specs.Prelude.{◌≡◌, ◌*◌, ◌/◌, ◌<◌, ◌≤◌, length, None, slice_index_or, slice_set};
 ghost use Rattle.std.proofs.lemmas.List.{get_or_past};
-ghost use Rattle.fringe.specs.Fringes.{Empty, Emptied};
-ghost use Rattle.winner_tree.specs.Tournaments.{capacity_of, meaning_of, out_of, winner_of, match_at, InOrder, InOrderBut};
+ghost use Rattle.fringe.specs.Fringes.{Empty, Emptied, lowered};
+ghost use Rattle.winner_tree.specs.Tournaments.{capacity_of, meaning_of, out_of, champion_of, winner_of, match_at, cheaper, InOrder, InOrderBut};
 
 pub use fringe::MOST_PLACES;
 use fringe::{Fringe, Order, Place, Refusal, precedes};
@@ -61,6 +61,16 @@ impl<'a, C: Order + Copy> WinnerTree<'a, C> {
         self.costs[p].map(|cost| (Place(p as u16), cost))
     }
 
+    /// Who wins the tournament.
+    fn champion(&self) -> Option<(Place, C)>
+        ensures { result ≡ champion_of self.now.costs.now self.now.winners.now }
+    {
+        if self.costs.is_empty() {
+            return None;
+        }
+        self.contestant(1)
+    }
+
     /// Plays the match at an inner node.
     fn play(&mut self, node: usize)
         requires { node < length self.old.costs.now }
@@ -92,6 +102,17 @@ impl<'a, C: Order + Copy> WinnerTree<'a, C> {
         self.costs[p] = cost;
         self.replay(self.costs.len() + p);
     }
+
+    /// Writes a cost for a place, unless what it holds is at most that.
+    fn lower(&mut self, p: usize, cost: C)
+        requires { p < length self.old.costs.now }
+        ensures costs { self.new.costs.now ≡ slice_set self.old.costs.now p (lowered C.Order.thing C.Order.leq (slice_index_or self.old.costs.now p None) cost) }
+        ensures order { InOrder C.Order.thing C.Order.leq self.old.costs.now self.old.winners.now → InOrder C.Order.thing C.Order.leq self.new.costs.now self.new.winners.now }
+    {
+        if lowers(cost, self.costs[p]) {
+            self.write(p, Some(cost));
+        }
+    }
 }
 
 impl<'a, C: Order + Copy> Fringe<C> for WinnerTree<'a, C> {
@@ -114,17 +135,12 @@ impl<'a, C: Order + Copy> Fringe<C> for WinnerTree<'a, C> {
         if p >= self.costs.len() {
             return Err(Refusal::NoRoom);
         }
-        if self.costs[p].is_none_or(|old| cost.less(&old)) {
-            self.write(p, Some(cost));
-        }
+        self.lower(p, cost);
         Ok(())
     }
 
     fn least(&self) -> Option<(Place, C)> {
-        if self.costs.is_empty() {
-            return None;
-        }
-        self.contestant(1)
+        self.champion()
     }
 
     fn take(&mut self) -> Option<(Place, C)> {
@@ -147,4 +163,11 @@ fn better<C: Order + Copy>(a: Option<(Place, C)>, b: Option<(Place, C)>) -> Opti
         (Some(_), None) => a,
         (None, _) => b,
     }
+}
+
+/// Whether a cost is less than what is held, if anything is.
+fn lowers<C: Order + Copy>(cost: C, held: Option<C>) -> bool
+    ensures { result ≡ cheaper C.Order.thing C.Order.leq cost held }
+{
+    held.is_none_or(|old| cost.less(&old))
 }
