@@ -64,12 +64,23 @@ fn agree<C: Order + Copy>(a: Option<(Place, C)>, b: Option<(Place, C)>) -> bool 
     }
 }
 
+/// The lesser of the best so far and what a later place holds, and of equals the best so far.
+fn lesser<C: Order + Copy>(best: Option<(Place, C)>, next: (Place, C)) -> (Place, C) {
+    match best {
+        Some(best) if !next.1.less(&best.1) => best,
+        _ => next,
+    }
+}
+
 /// The least of a row, and of equals the lowest place, by looking at every place.
 fn scan<C: Order + Copy>(row: &[Option<C>]) -> Option<(Place, C)> {
-    (0..PLACES as u16)
-        .zip(row)
-        .filter_map(|(p, cost)| Some((Place(p), (*cost)?)))
-        .reduce(|best, next| if next.1.less(&best.1) { next } else { best })
+    let mut best = None;
+    for p in 0..PLACES {
+        if let Some(&Some(cost)) = row.get(p) {
+            best = Some(lesser(best, (Place(p as u16), cost)));
+        }
+    }
+    best
 }
 
 /// Enters a place of a row, or lowers its cost.
@@ -143,6 +154,10 @@ fn drive<C: Drawn, F: Fringe<C>>(
     out: &mut [(Place, C)],
 ) -> u32 {
     row.fill(None);
+    // No fringe holds this place: an entry that the drain leaves unwritten differs.
+    for entry in out.iter_mut() {
+        *entry = (Place(PLACES as u16), C::drawn(0));
+    }
     let mut dice = Dice(7);
     let mut differ = 0u32;
     for _ in 0..CALLS {
