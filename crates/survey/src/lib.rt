@@ -1,7 +1,7 @@
 //! What a map holds, counted district by district.
 #![tactic(auto)]
 
-ghost use Rattle.std.specs.Prelude.{◌≡◌, not, ◌&&◌};
+ghost use Rattle.std.specs.Prelude.{◌≡◌, ◌≤◌, not, ◌&&◌};
 ghost use Rattle.map.specs.Model.{is_in};
 ghost use Rattle.survey.specs.Counts.{crosses, places_in, roads_leaving};
 
@@ -12,7 +12,7 @@ use map::{District, Map, RoadId};
 pub fn places_in<M: Map>(map: &M, district: District) -> usize
     ensures { result ≡ places_in (M.Map.model map.now) district.0 }
 {
-    (0..map.places() as u16)
+    (0..map.places())
         .filter(|&p| counts(map, district, p))
         .count()
 }
@@ -27,10 +27,11 @@ pub fn roads_leaving<M: Map>(map: &M, district: District) -> usize
 }
 
 /// Whether the place of a number is one of the district.
-fn counts<M: Map>(map: &M, district: District, number: u16) -> bool
+fn counts<M: Map>(map: &M, district: District, number: usize) -> bool
+    requires { number ≤ 65535 }
     ensures { result ≡ is_in (M.Map.model map.now) district.0 number }
 {
-    map.is_in(district, Place(number))
+    map.is_in(district, Place(number as u16))
 }
 
 /// Whether a road leaves the district.
