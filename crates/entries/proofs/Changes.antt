@@ -1,13 +1,13 @@
 -- What the calls of a table make of its places.
-use Rattle.std.proofs.Common.{◌≡◌, ℕ, ◌+◌, ◌<◌, ◌≤◌, eqb, ltb, List, [], ◌∷◌, ◌++◌, length, get_or, take, set, position, is_some, Some, None, Ok, Err, Option, Result, sym, ap, ◌∙◌, subst, inl, inr, arith, MatchResult}
+use Rattle.std.proofs.Common.{◌≡◌, ℕ, ◌+◌, ◌<◌, ◌≤◌, eqb, ltb, List, [], ◌∷◌, ◌++◌, length, get_or, take, drop, set, position, is_some, Some, None, Ok, Err, Option, Result, sym, ap, ◌∙◌, subst, inl, inr, arith, MatchResult, length-append}
 use Rattle.std.specs.List.{position_or_len}
 use Rattle.std.proofs.lemmas.Bool.{cases_Bool, cases_lt, eqb-true, ltb-true, ltb-false}
-use Rattle.std.proofs.lemmas.List.{get_or-take, length-set, length-take-le, set_past, take-set-le, take_more, take_more_set}
+use Rattle.std.proofs.lemmas.List.{get_or-take, length-set, length-take-le, set_past, take-set-le, take_more, take_more_set, take-append-drop}
 use Rattle.std.proofs.Math.Seq.{take-set-lt}
 use Rattle.std.proofs.lemmas.List.Folds.{find_at}
 use Rattle.std.proofs.lemmas.List.Quantifiers.{position-Some}
 use Rattle.std.proofs.lemmas.Option.{cond_some, none-some, slice_get_past, slice_get_cases}
-use Rattle.entries.specs.Entries.{entry_for, Found, Apart, Tidy, Put, Lost}
+use Rattle.entries.specs.Entries.{Kept, kept, entry_for, Found, Apart, Limited, Tidy, Put, Lost}
 use Rattle.entries.proofs.Lists.{apart_push, put_push, apart_set, put_set, apart_moved, lost_moved}
 
 -- what a search for a road finds
@@ -41,22 +41,40 @@ take_set xs k i x l = elim (cases_lt i k) [
   | inr le ↦ take-set-le k xs i x le ∙ sym (set_past (take k xs) i x (omega (arith, length-take-le k xs l)))
 ]
 
--- the first n places of a table are in use, by the entries es
-pub record InUse {X : Type 0} (road_of : X → ℕ) (places : List X) (n : ℕ) (es : List X) : Type 0 where
-  pub tidy : Tidy road_of n places
-  pub view : take n places ≡ es
+-- what a table keeps is limited
+pub limited : {X : Type 0} (road_of : X → ℕ) (n : ℕ) (places : List X) → Tidy road_of n places → Limited road_of (kept n places)
+limited road_of n places tidy = record {
+  wide = sym (length-append (take n places) (drop n places)) ∙ ap length (take-append-drop n places) ∙ tidy.wide;
+  few = let long = length-take-le n places (omega (arith, tidy.few, tidy.wide)) in omega (arith, long, tidy.few);
+  distinct = tidy.distinct;
+}
 
-module _ {X : Type 0} {road_of : X → ℕ} {places : List X} {n : ℕ} {es : List X} (u : InUse road_of places n es) where
+-- the first n places of a table that keeps t are in use
+pub record InUse {X : Type 0} (road_of : X → ℕ) (places : List X) (n : ℕ) (t : Kept X) : Type 0 where
+  pub tidy : Tidy road_of n places
+  pub view : kept n places ≡ t
+
+module _ {X : Type 0} {road_of : X → ℕ} {places : List X} {n : ℕ} {t : Kept X} (u : InUse road_of places n t) where
+  -- its entries
+  abbrev es : List X
+  es = t.used
+
+  pub limits : Limited road_of t
+  limits = subst (Limited road_of) u.view (limited road_of n places u.tidy)
+
+  used : take n places ≡ es
+  used = ap (λ k. k.used) u.view
+
   pub apart : Apart road_of es
-  apart = subst (Apart road_of) u.view u.tidy.distinct
+  apart = limits.distinct
 
   pub many : length es ≡ n
-  many = sym (ap length u.view) ∙ length-take-le n places (omega (arith, u.tidy.few, u.tidy.wide))
+  many = sym (ap length used) ∙ length-take-le n places (omega (arith, u.tidy.few, u.tidy.wide))
 
   -- the entry at i is rewritten
   module _ (i : ℕ) (x : X) (within : i < length es) (same : (d : X) → road_of (get_or es i d) ≡ road_of x) where
     now : take n (set places i x) ≡ set es i x
-    now = take_set places n i x (omega (arith, u.tidy.few, u.tidy.wide)) ∙ ap (λ l. set l i x) u.view
+    now = take_set places n i x (omega (arith, u.tidy.few, u.tidy.wide)) ∙ ap (λ l. set l i x) used
 
     tidy_rewritten : Tidy road_of n (set places i x)
     tidy_rewritten = record {
@@ -71,21 +89,21 @@ module _ {X : Type 0} {road_of : X → ℕ} {places : List X} {n : ℕ} {es : Li
   -- or refuses to be
   module _ (i : ℕ) (e : X) (within : i < length es) (same : (z : X) → road_of (get_or es i z) ≡ road_of e) where
     pub stood : (d : X) → road_of (get_or places i d) ≡ road_of e
-    stood d = ap road_of (sym (get_or-take n places i d (omega (arith, many))) ∙ ap (λ l. get_or l i d) u.view) ∙ same d
+    stood d = ap road_of (sym (get_or-take n places i d (omega (arith, many))) ∙ ap (λ l. get_or l i d) used) ∙ same d
 
     pub tidy_renewed : {R : Type 0} (a : Result Unit R) (ys : List X) → MatchResult a (λ _. ys ≡ set places i e) (λ _. ys ≡ places) → Tidy road_of n ys
     tidy_renewed (Ok _) ys k = subst (Tidy road_of n) (sym k) (tidy_rewritten i e within same)
     tidy_renewed (Err _) ys k = subst (Tidy road_of n) (sym k) u.tidy
 
     pub put_renewed : {R : Type 0} (a : Result Unit R) (ys : List X) → MatchResult a (λ _. ys ≡ set places i e) (λ _. ys ≡ places) →
-        MatchResult a (λ _. Put road_of es (take n ys) e) (λ _. take n ys ≡ es)
+        MatchResult a (λ _. Put road_of es (take n ys) e) (λ _. kept n ys ≡ t)
     put_renewed (Ok _) ys k = subst (λ l. Put road_of es (take n l) e) (sym k) (put_rewritten i e within same)
-    put_renewed (Err _) ys k = ap (take n) k ∙ u.view
+    put_renewed (Err _) ys k = ap (kept n) k ∙ u.view
 
   -- there is one more entry
   module _ (x : X) (free : entry_for road_of es (road_of x) ≡ None) (room : n < 64) where
     grown : take (n + 1) (set places n x) ≡ es ++ x ∷ []
-    grown = take_more_set places n x (omega (arith, u.tidy.wide)) ∙ ap (λ l. l ++ x ∷ []) u.view
+    grown = take_more_set places n x (omega (arith, u.tidy.wide)) ∙ ap (λ l. l ++ x ∷ []) used
 
     pub tidy_pushed : Tidy road_of (n + 1) (set places n x)
     tidy_pushed = record {
@@ -103,7 +121,7 @@ module _ {X : Type 0} {road_of : X → ℕ} {places : List X} {n : ℕ} {es : Li
     last = get_or places k d
 
     cut : take k places ++ last ∷ [] ≡ es
-    cut = sym (take_more places k d (omega (arith, u.tidy.few, u.tidy.wide))) ∙ ap (λ m. take m places) (sym one) ∙ u.view
+    cut = sym (take_more places k d (omega (arith, u.tidy.few, u.tidy.wide))) ∙ ap (λ m. take m places) (sym one) ∙ used
 
     left : take k (set places i last) ≡ set (take k places) i last
     left = take_set places k i last (omega (arith, u.tidy.few, u.tidy.wide))

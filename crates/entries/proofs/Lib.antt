@@ -1,3 +1,4 @@
 pub mod Changes
+pub mod Limits
 pub mod Lists
 pub mod Readings

@@ -1,7 +1,16 @@
 -- Lists of entries, each of them for a road: `road_of` gives an entry's road by its number.
-use Rattle.std.specs.Prelude.{◌≡◌, ℕ, ◌+◌, ◌<◌, ◌≤◌, true, cond, List, length, take, find, is_some, Some, None, Option, ◌==◌, ◌≢◌, slice_index_or}
+use Rattle.std.specs.Prelude.{◌≡◌, ℕ, ◌+◌, ◌<◌, ◌≤◌, true, cond, List, length, take, drop, find, is_some, Some, None, Option, ◌==◌, ◌≢◌, slice_index_or}
 use Rattle.std.specs.List.{AllPairs}
 use Rattle.map.specs.declared.numbers.RoadId.{RoadId}
+
+-- What a table keeps: the entries in use, in order, and what stands in the spare places behind them.
+pub record Kept (X : Type 0) : Type 0 where
+  pub used : List X
+  pub spare : List X
+
+-- The first n of these places are in use.
+abbrev pub kept : {X : Type 0} → ℕ → List X → Kept X
+kept n places = record { used = take n places; spare = drop n places }
 
 -- Where only the road matters, an entry is the road's number.
 abbrev pub closed_road : RoadId → ℕ
@@ -20,10 +29,11 @@ Found {X} road_of es r (Some i) = (i < length es) × ((d : X) → road_of (slice
 abbrev pub Apart : {X : Type 0} → (X → ℕ) → List X → Type 0
 Apart road_of es = AllPairs (λ x y. road_of x ≢ road_of y) es
 
--- What holds of the entries of every table: there are up to 64, and no two of them are for one road.
-pub record Limited {X : Type 0} (road_of : X → ℕ) (es : List X) : Type 0 where
-  pub few : length es ≤ 64
-  pub distinct : Apart road_of es
+-- What holds of every table: it has 64 places, up to 64 entries, and no two of them are for one road.
+pub record Limited {X : Type 0} (road_of : X → ℕ) (t : Kept X) : Type 0 where
+  pub wide : length t.used + length t.spare ≡ 64
+  pub few : length t.used ≤ 64
+  pub distinct : Apart road_of t.used
 
 -- The first `len` of 64 places are in use, by entries of which no two are for one road.
 pub record Tidy {X : Type 0} (road_of : X → ℕ) (len : ℕ) (entries : List X) : Type 0 where

@@ -1,7 +1,7 @@
 //! A table of closed roads.
 ghost use Rattle.std.specs.Prelude.{◌≡◌, Err, length, MatchResult};
 ghost use Rattle.entries.specs.declared.refusals.Refusal.TheVariants.{AlreadyClosed};
-ghost use Rattle.entries.specs.Entries.{closed_road};
+ghost use Rattle.entries.specs.Entries.{closed_road, Limited};
 ghost use Rattle.entries.specs.Tables.{holds, add_answer, Added};
 
 use crate::entry::Entry;
@@ -30,15 +30,17 @@ impl Entry for RoadId {
 impl ClosedRoads {
     /// Whether a road is on the table.
     pub fn holds(&self, road: RoadId) -> bool
-        ensures { result ≡ holds self.now road.0 }
+        ensures holds { result ≡ holds self.now.used road.0 }
+        ensures limits { Limited closed_road self.now }
     {
         self.get(road).is_some()
     }
 
     /// Puts a road on the table.
     pub fn add(&mut self, road: RoadId) -> Result<(), Refusal>
-        ensures answer { result ≡ add_answer (holds self.old road.0) (length self.old) }
-        ensures after { MatchResult result (λ _. Added self.old self.new road.0) (λ _. self.new ≡ self.old) }
+        ensures answer { result ≡ add_answer (holds self.old.used road.0) (length self.old.used) }
+        ensures after { MatchResult result (λ _. Added self.old.used self.new.used road.0) (λ _. self.new ≡ self.old) }
+        ensures limits { Limited closed_road self.new }
     {
         self.put(road)
     }

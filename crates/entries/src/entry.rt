@@ -1,6 +1,7 @@
 //! What a table keeps of one road, and where.
-ghost use Rattle.std.specs.Prelude.{◌≡◌, ℕ, ◌<◌, List, length, Result, MatchResult, slice_set, slice_index_or};
+ghost use Rattle.std.specs.Prelude.{◌≡◌, ℕ, ◌<◌, ◌≤◌, List, length, Err, Result, MatchResult, slice_set, slice_index_or};
 ghost use Rattle.entries.specs.declared.refusals.Refusal.{Refusal};
+ghost use Rattle.entries.specs.declared.refusals.Refusal.TheVariants.{NoEntry};
 
 use crate::refusals::Refusal;
 use crate::tables::ROOM;
@@ -44,10 +45,12 @@ pub trait Places<E: Entry>: Copy {
     fn place(&mut self, i: usize, entry: E)
         ensures { items self.new ≡ slice_set (items self.old) i entry };
 
-    /// Has the entry in a place renewed by another for the same road, if there is that place.
+    /// Has the entry in a place renewed by another for the same road. Where there is not that place, there is no entry, and
+    /// nothing changes.
     fn renew(&mut self, i: usize, entry: E) -> Result<(), Refusal>
         ensures answer { i < length (items self.old) → result ≡ E.Entry.again }
-        ensures after { (d : E) → i < length (items self.old) → E.Entry.road (slice_index_or (items self.old) i d) ≡ E.Entry.road entry → MatchResult result (λ _. items self.new ≡ slice_set (items self.old) i entry) (λ _. items self.new ≡ items self.old) };
+        ensures after { (d : E) → i < length (items self.old) → E.Entry.road (slice_index_or (items self.old) i d) ≡ E.Entry.road entry → MatchResult result (λ _. items self.new ≡ slice_set (items self.old) i entry) (λ _. items self.new ≡ items self.old) }
+        ensures nowhere { length (items self.old) ≤ i → (result ≡ Err NoEntry) × (items self.new ≡ items self.old) };
 }
 
 impl<E: Entry> Places<E> for [E; ROOM] {

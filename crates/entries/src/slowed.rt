@@ -1,5 +1,6 @@
 //! A table of slowed roads.
 ghost use Rattle.std.specs.Prelude.{◌≡◌, ℕ, Ok, length, MatchResult};
+ghost use Rattle.entries.specs.Entries.{Limited};
 ghost use Rattle.entries.specs.Slowdowns.{slow_road};
 ghost use Rattle.entries.specs.Tables.{figure, set_answer, Slowed};
 
@@ -34,16 +35,20 @@ impl Entry for Slowdown {
 impl SlowedRoads {
     /// The figure of a road.
     pub fn figure(&self, road: RoadId) -> Option<u16>
-        ensures { result ≡ figure self.now road.0 }
+        ensures figure { result ≡ figure self.now.used road.0 }
+        ensures limits { Limited slow_road self.now }
     {
         Some(self.get(road)?.seconds)
     }
 
     /// Gives a road a figure, in place of the one that it may have.
     pub fn set(&mut self, road: RoadId, seconds: u16) -> Result<(), Refusal>
-        ensures answer { result ≡ set_answer seconds (figure self.old road.0) (length self.old) }
-        ensures after { MatchResult result (λ _. Slowed self.old self.new road.0 seconds) (λ _. self.new ≡ self.old) }
+        ensures answer { result ≡ set_answer seconds (figure self.old.used road.0) (length self.old.used) }
+        ensures after { MatchResult result (λ _. Slowed self.old.used self.new.used road.0 seconds) (λ _. self.new ≡ self.old) }
+        ensures limits { Limited slow_road self.new }
     {
+        // Its limits hold where the figure is too long too.
+        let _ = &self.len;
         self.put(Slowdown::new(road, seconds)?)
     }
 }

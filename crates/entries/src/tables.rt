@@ -14,11 +14,12 @@ pub const ROOM: usize = 64;
 
 /// Up to 64 entries, no two of them for one road. The first `len` of its places are in use.
 ///
-/// The length stands beside the places since there is no heap.
+/// The length stands beside the places since there is no heap. Contracts see the entries in use, and the spare places too:
+/// so a table that is said to be unchanged is so in all of its places.
 #[derive(Drop)]
 pub struct Entries<E: Entry, A: Places<E>> {
     places: A,
-    len: usize,
+    pub(crate) len: usize,
     of: PhantomData<E>,
 }
 
@@ -29,12 +30,11 @@ pub type ClosedRoads = Entries<RoadId, [RoadId; ROOM]>;
 pub type SlowedRoads = Entries<Slowdown, [Slowdown; ROOM]>;
 
 impl<E: Entry, A: Places<E>> Model for Entries<E, A> {
-    ghost use Rattle.std.specs.Prelude.{List, take};
-    ghost use Rattle.entries.specs.Entries.{Tidy};
+    ghost use Rattle.entries.specs.Entries.{Kept, kept, Tidy};
 
-    ghost Value = { List E };
+    ghost Value = { Kept E };
 
-    ghost view = { λ t. take t.len (A.Places.items t.places) };
+    ghost view = { λ t. kept t.len (A.Places.items t.places) };
 
     ghost invariant = { λ t. Tidy E.Entry.road t.len (A.Places.items t.places) };
 }
@@ -42,7 +42,8 @@ impl<E: Entry, A: Places<E>> Model for Entries<E, A> {
 impl<E: Entry, A: Places<E>> Entries<E, A> {
     /// No entries.
     pub fn new() -> Self
-        ensures { result ≡ [] }
+        ensures none { result.used ≡ [] }
+        ensures limits { Limited E.Entry.road result }
     {
         Entries {
             places: A::blank(),
@@ -54,8 +55,8 @@ impl<E: Entry, A: Places<E>> Entries<E, A> {
     /// Whether the table has no entry.
     #[tactic(auto, unfolding(crate::specs::Entries::entry_for))]
     pub fn is_empty(&self) -> bool
-        ensures count { result ≡ (length self.now == 0) }
-        ensures none { result ≡ true → (q : ℕ) → entry_for E.Entry.road self.now q ≡ None }
+        ensures count { result ≡ (length self.now.used == 0) }
+        ensures none { result ≡ true → (q : ℕ) → entry_for E.Entry.road self.now.used q ≡ None }
         ensures limits { Limited E.Entry.road self.now }
     {
         self.len == 0
@@ -64,15 +65,17 @@ impl<E: Entry, A: Places<E>> Entries<E, A> {
     /// The entry of a road.
     #[tactic(auto, unfolding(crate::specs::Entries::entry_for))]
     pub fn get(&self, road: RoadId) -> Option<E>
-        ensures { result ≡ entry_for E.Entry.road self.now road.0 }
+        ensures entry { result ≡ entry_for E.Entry.road self.now.used road.0 }
+        ensures limits { Limited E.Entry.road self.now }
     {
         self.used().iter().copied().find(|x| x.road() == road)
     }
 
     /// Enters a road, or, if it has an entry, does as such entries do.
     pub fn put(&mut self, entry: E) -> Result<(), Refusal>
-        ensures answer { result ≡ put_answer E.Entry.again (is_some (entry_for E.Entry.road self.old (E.Entry.road entry))) (length self.old) }
-        ensures after { MatchResult result (λ _. Put E.Entry.road self.old self.new entry) (λ _. self.new ≡ self.old) }
+        ensures answer { result ≡ put_answer E.Entry.again (is_some (entry_for E.Entry.road self.old.used (E.Entry.road entry))) (length self.old.used) }
+        ensures after { MatchResult result (λ _. Put E.Entry.road self.old.used self.new.used entry) (λ _. self.new ≡ self.old) }
+        ensures limits { Limited E.Entry.road self.new }
     {
         if let Some(i) = self.position(entry.road()) {
             return self.renew(i, entry);
@@ -86,8 +89,9 @@ impl<E: Entry, A: Places<E>> Entries<E, A> {
 
     /// Takes a road off the table.
     pub fn remove(&mut self, road: RoadId) -> Result<(), Refusal>
-        ensures answer { result ≡ remove_answer (is_some (entry_for E.Entry.road self.old road.0)) }
-        ensures after { MatchResult result (λ _. Lost E.Entry.road self.old self.new road.0) (λ _. self.new ≡ self.old) }
+        ensures answer { result ≡ remove_answer (is_some (entry_for E.Entry.road self.old.used road.0)) }
+        ensures after { MatchResult result (λ _. Lost E.Entry.road self.old.used self.new.used road.0) (λ _. self.new ≡ self.old) }
+        ensures limits { Limited E.Entry.road self.new }
     {
         let i = self.position(road).ok_or(Refusal::NoEntry)?;
         self.free(i);
@@ -96,24 +100,27 @@ impl<E: Entry, A: Places<E>> Entries<E, A> {
 
     /// The entries in use.
     fn used(&self) -> &[E]
-        ensures { result.now ≡ self.now }
+        ensures entries { result.now ≡ self.now.used }
+        ensures limits { Limited E.Entry.road self.now }
     {
         &self.places.as_slice()[..self.len]
     }
 
     /// Where the entry of a road stands.
     fn position(&self, road: RoadId) -> Option<usize>
-        ensures found { Found E.Entry.road self.now road.0 result }
-        ensures own { is_some result ≡ is_some (entry_for E.Entry.road self.now road.0) }
+        ensures found { Found E.Entry.road self.now.used road.0 result }
+        ensures own { is_some result ≡ is_some (entry_for E.Entry.road self.now.used road.0) }
+        ensures limits { Limited E.Entry.road self.now }
     {
         first_for(self.used(), road)
     }
 
     /// Enters a road behind the last entry.
     fn push(&mut self, entry: E)
-        requires fresh { entry_for E.Entry.road self.old (E.Entry.road entry) ≡ None }
-        requires room { length self.old < 64 }
-        ensures { Put E.Entry.road self.old self.new entry }
+        requires fresh { entry_for E.Entry.road self.old.used (E.Entry.road entry) ≡ None }
+        requires room { length self.old.used < 64 }
+        ensures put { Put E.Entry.road self.old.used self.new.used entry }
+        ensures limits { Limited E.Entry.road self.new }
     {
         self.places.place(self.len, entry);
         self.len += 1;
@@ -121,17 +128,19 @@ impl<E: Entry, A: Places<E>> Entries<E, A> {
 
     /// Puts an entry in the place of the one that its road has, if such an entry lets it.
     fn renew(&mut self, i: usize, entry: E) -> Result<(), Refusal>
-        requires { Found E.Entry.road self.old (E.Entry.road entry) (Some i) }
+        requires { Found E.Entry.road self.old.used (E.Entry.road entry) (Some i) }
         ensures answer { result ≡ E.Entry.again }
-        ensures after { MatchResult result (λ _. Put E.Entry.road self.old self.new entry) (λ _. self.new ≡ self.old) }
+        ensures after { MatchResult result (λ _. Put E.Entry.road self.old.used self.new.used entry) (λ _. self.new ≡ self.old) }
+        ensures limits { Limited E.Entry.road self.new }
     {
         self.places.renew(i, entry)
     }
 
     /// Frees an entry: the last one moves into it.
     fn free(&mut self, i: usize)
-        requires { i < length self.old }
-        ensures { (r : ℕ) → Found E.Entry.road self.old r (Some i) → Lost E.Entry.road self.old self.new r }
+        requires { i < length self.old.used }
+        ensures lost { (r : ℕ) → Found E.Entry.road self.old.used r (Some i) → Lost E.Entry.road self.old.used self.new.used r }
+        ensures limits { Limited E.Entry.road self.new }
     {
         self.len -= 1;
         let last = self.places.as_slice()[self.len];

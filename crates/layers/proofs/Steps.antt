@@ -3,11 +3,15 @@ use Rattle.std.proofs.Common.{◌≡◌, ℕ, ◌+◌, ◌<◌, Bool, true, fals
 use Rattle.std.proofs.lemmas.Bool.{eq-eqb, ne_eqb, false≢true}
 use Rattle.map.specs.declared.roads.Road.{Road}
 use Rattle.map.specs.Model.{MapModel, WellFormed}
+use Rattle.entries.specs.declared.entry.Entry.{Ghosts as EntryOf}
+use Rattle.entries.specs.declared.entry.Places.{Ghosts as PlacesOf}
 use Rattle.entries.specs.declared.refusals.Refusal.{Refusal}
-use Rattle.entries.specs.Entries.{entry_for}
+use Rattle.entries.specs.Entries.{Kept, entry_for, Limited}
+use Rattle.entries.proofs.Limits.{limited_prop}
 use Rattle.layers.specs.declared.layer.Layer.{Layer}
 use Rattle.layers.specs.Histories.{last_on, further}
-use Rattle.layers.specs.Layers.{on_road, table_answer, Given, said_by, Left, Called}
+use Rattle.layers.specs.Calls.{Called}
+use Rattle.layers.specs.Layers.{on_road, table_answer, Given, said_by, Left}
 use Rattle.layers.specs.Rules.{Rules, RuleLaws}
 use Rattle.layers.proofs.Counting.{many_step}
 
@@ -52,7 +56,7 @@ module _ {E C V : Type 0} (road_of : E → ℕ) (again : Result Unit Refusal) (k
         (counted (is_some (entry_for road_of before (k.named call))) (length after) (length before) (g.count ∙ ap (λ r. length before + cond (is_some (entry_for road_of before r)) 0 1) own))
 
   -- ---- a call on a road that the map below has
-  module _ {G A : Type 0} (m : MapModel) (w : WellFormed m) (call : C) (there : is_some (m.road (k.named call)) ≡ true) (before : Layer G E A) (t : List E) where
+  module _ {G A : Type 0} {e : EntryOf E} {p : PlacesOf A E} (m : MapModel) (w : WellFormed m) (call : C) (there : is_some (m.road (k.named call)) ≡ true) (before : Layer G E A e p) (t : Kept E) (limited : Limited e.road t) where
     on : (o : Option Road) (a : Result Unit Refusal) → is_some o ≡ true → on_road o a ≡ a
     on (Some x) a e = refl
     on None a e = absurd (false≢true e)
@@ -62,29 +66,37 @@ module _ {E C V : Type 0} (road_of : E → ℕ) (again : Result Unit Refusal) (k
     numbered (Some x) is e = omega (arith, (w.road_fits (k.named call) x is).numbered, w.few_roads)
     numbered None is e = absurd (false≢true e)
 
-    abbrev layer : Layer G E A
-    layer = record { below = before.below; roads = t }
+    -- the layer with another table
+    abbrev over : (s : Kept E) → Limited e.road s → Layer G E A e p
+    over s l = record { below = before.below; roads = s; limited = l }
 
-    change_is : (P : Type 0) (a : Result Unit Refusal) → MatchResult a (λ _. P) (λ _. t ≡ before.roads) → MatchResult a (λ _. P) (λ _. ◌≡◌ {A = Layer G E A} layer before)
+    abbrev layer : Layer G E A e p
+    layer = over t limited
+
+    -- it is as it was where its table is
+    stays : (s : Kept E) → before.roads ≡ s → (l : Limited e.road s) → over s l ≡ before
+    stays s c = subst (λ z. (l : Limited e.road z) → over z l ≡ before) c (λ l. ap (over before.roads) (limited_prop e.road before.roads l before.limited))
+
+    change_is : (P : Type 0) (a : Result Unit Refusal) → MatchResult a (λ _. P) (λ _. t ≡ before.roads) → MatchResult a (λ _. P) (λ _. ◌≡◌ {A = Layer G E A e p} layer before)
     change_is P (Ok u) c = c
-    change_is P (Err r) c = ap (λ (s : List E). record { below = before.below; roads = s }) c
+    change_is P (Err r) c = stays t (sym c) limited
 
-    left_by : (h : List C) (a : Result Unit Refusal) → Left road_of k h before.roads →
-        MatchResult a (λ _. Given road_of (k.entry_of call) (k.named call) before.roads t) (λ _. t ≡ before.roads) → Left road_of k (further h call a) t
-    left_by h (Ok u) was c = left_given h call before.roads t (numbered (m.road (k.named call)) refl there) was (k.entry_of call) refl c
-    left_by h (Err r) was c = subst (Left road_of k h) (sym c) was
+    left_by : (h : List C) (a : Result Unit Refusal) → Left road_of k h before.roads.used →
+        MatchResult a (λ _. Given road_of (k.entry_of call) (k.named call) before.roads.used t.used) (λ _. t ≡ before.roads) → Left road_of k (further h call a) t.used
+    left_by h (Ok u) was c = left_given h call before.roads.used t.used (numbered (m.road (k.named call)) refl there) was (k.entry_of call) refl c
+    left_by h (Err r) was c = subst (λ (s : Kept E). Left road_of k h s.used) (sym c) was
 
     called : (a : Result Unit Refusal) →
-        a ≡ table_answer again (k.entry_of call) (is_some (entry_for road_of before.roads (k.named call))) (length before.roads) →
-        MatchResult a (λ _. Given road_of (k.entry_of call) (k.named call) before.roads t) (λ _. t ≡ before.roads) →
+        a ≡ table_answer again (k.entry_of call) (is_some (entry_for road_of before.roads.used (k.named call))) (length before.roads.used) →
+        MatchResult a (λ _. Given road_of (k.entry_of call) (k.named call) before.roads.used t.used) (λ _. t ≡ before.roads) →
         Called road_of again k m call before layer a
     called a e c = record {
       answer = e ∙ sym (on (m.road (k.named call)) _ there);
-      change = change_is (Given road_of (k.entry_of call) (k.named call) before.roads t) a c;
+      change = change_is (Given road_of (k.entry_of call) (k.named call) before.roads.used t.used) a c;
       below = refl;
       history = λ h was. record {
         answered = e ∙ sym (on (m.road (k.named call)) _ there)
-            ∙ ap (λ b. on_road (m.road (k.named call)) (table_answer again (k.entry_of call) b (length before.roads))) (sym (laws.counts (entry_for road_of before.roads (k.named call))) ∙ ap k.counted (was.reads (k.named call)))
+            ∙ ap (λ b. on_road (m.road (k.named call)) (table_answer again (k.entry_of call) b (length before.roads.used))) (sym (laws.counts (entry_for road_of before.roads.used (k.named call))) ∙ ap k.counted (was.reads (k.named call)))
             ∙ ap (λ n. on_road (m.road (k.named call)) (table_answer again (k.entry_of call) (k.counted (said_by k h (k.named call))) n)) was.count;
         left = left_by h a was c;
       };
@@ -92,9 +104,9 @@ module _ {E C V : Type 0} (road_of : E → ℕ) (again : Result Unit Refusal) (k
 
     -- by what its road is to have
     pub called_for : (o : Result (Option E) Refusal) → k.entry_of call ≡ o → (a : Result Unit Refusal) →
-        a ≡ table_answer again o (is_some (entry_for road_of before.roads (k.named call))) (length before.roads) →
-        MatchResult a (λ _. Given road_of o (k.named call) before.roads t) (λ _. t ≡ before.roads) →
+        a ≡ table_answer again o (is_some (entry_for road_of before.roads.used (k.named call))) (length before.roads.used) →
+        MatchResult a (λ _. Given road_of o (k.named call) before.roads.used t.used) (λ _. t ≡ before.roads) →
         Called road_of again k m call before layer a
     called_for o is a e c =
-        called a (subst (λ z. a ≡ table_answer again z (is_some (entry_for road_of before.roads (k.named call))) (length before.roads)) (sym is) e)
-        (subst (λ z. MatchResult a (λ _. Given road_of z (k.named call) before.roads t) (λ _. t ≡ before.roads)) (sym is) c)
+        called a (subst (λ z. a ≡ table_answer again z (is_some (entry_for road_of before.roads.used (k.named call))) (length before.roads.used)) (sym is) e)
+        (subst (λ z. MatchResult a (λ _. Given road_of z (k.named call) before.roads.used t.used) (λ _. t ≡ before.roads)) (sym is) c)

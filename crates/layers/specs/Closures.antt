@@ -3,6 +3,8 @@ use Rattle.std.specs.Prelude.{◌≡◌, ℕ, Bool, List, length, Err, Option, R
 use Rattle.map.specs.declared.numbers.RoadId.{RoadId}
 use Rattle.map.specs.declared.roads.Road.{Road}
 use Rattle.map.specs.Model.{MapModel}
+use Rattle.entries.specs.declared.entry.Entry.{Ghosts as EntryOf}
+use Rattle.entries.specs.declared.entry.Places.{Ghosts as PlacesOf}
 use Rattle.entries.specs.declared.refusals.Refusal.{Refusal}
 use Rattle.entries.specs.declared.refusals.Refusal.TheVariants.{AlreadyClosed}
 use Rattle.entries.specs.Answers.{remove_answer}
@@ -38,9 +40,16 @@ abbrev pub closure_rules : Rules RoadId ClosureCall Bool
 closure_rules = record { shows = is_some; counted = λ closed. closed; reads = shut; named = road_named; entry_of = entry_of; leaves = is_close }
 
 -- ---- what its history makes of it
+-- The entries of such a layer are roads, and its places a list of them.
+abbrev pub closed_entries : EntryOf RoadId
+closed_entries = record { road = closed_road; again = Err AlreadyClosed }
+
+abbrev pub closed_places : PlacesOf (List RoadId) RoadId
+closed_places = record { items = λ places. places }
+
 -- A layer of closures over a map of the type G.
 abbrev pub Closures : Type 0 → Type 0
-Closures G = Layer G RoadId (List RoadId)
+Closures G = Layer G RoadId (List RoadId) closed_entries closed_places
 
 -- Whether the road r is closed: the last accepted close or open of it was a close.
 abbrev pub closed_by : List ClosureCall → ℕ → Bool
@@ -52,7 +61,7 @@ closures_by h = many (closed_by h) 65536
 
 -- The history leaves the layer so: just the roads that it closes have an entry, each of them one.
 abbrev pub LeftBy : {G : Type 0} → List ClosureCall → Closures G → Type 0
-LeftBy h c = Left closed_road closure_rules h c.roads
+LeftBy h c = Left closed_road closure_rules h c.roads.used
 
 -- What a close of a road answers, from the road below, whether it has an entry and how many there are: no such road
 -- (11), already on the layer (12), 64 on it (14), in this order.
@@ -70,15 +79,15 @@ answer_by m h call = layer_answer_by (Err AlreadyClosed) closure_rules m h call
 -- A close of the road on a layer over a map that means m. An accepted one puts the road on the layer, and a refused one
 -- changes nothing at all.
 pub record Closing {G : Type 0} (m : MapModel) (road : RoadId) (before after : Closures G) (a : Result Unit Refusal) : Type 0 where
-  pub answer : a ≡ close_answer (m.road road.0) (holds before.roads road.0) (length before.roads)
-  pub change : MatchResult a (λ _. Added before.roads after.roads road.0) (λ _. after ≡ before)
+  pub answer : a ≡ close_answer (m.road road.0) (holds before.roads.used road.0) (length before.roads.used)
+  pub change : MatchResult a (λ _. Added before.roads.used after.roads.used road.0) (λ _. after ≡ before)
   pub below : after.below ≡ before.below
   pub history : (h : List ClosureCall) → LeftBy h before → ByHistory (answer_by m) LeftBy h (Close road) a after
 
 -- An open of the road on a layer over a map that means m. An accepted one takes the road off the layer, and a refused one
 -- changes nothing at all.
 pub record Opening {G : Type 0} (m : MapModel) (road : RoadId) (before after : Closures G) (a : Result Unit Refusal) : Type 0 where
-  pub answer : a ≡ open_answer (m.road road.0) (holds before.roads road.0)
-  pub change : MatchResult a (λ _. Removed before.roads after.roads road.0) (λ _. after ≡ before)
+  pub answer : a ≡ open_answer (m.road road.0) (holds before.roads.used road.0)
+  pub change : MatchResult a (λ _. Removed before.roads.used after.roads.used road.0) (λ _. after ≡ before)
   pub below : after.below ≡ before.below
   pub history : (h : List ClosureCall) → LeftBy h before → ByHistory (answer_by m) LeftBy h (Open road) a after

@@ -1,14 +1,13 @@
 -- What the history of a layer makes of it. A layer is of a kind: `road_of` gives the road of an entry, `again` is what
 -- entering a road answers that has an entry, and `k` is what the kind goes by.
-use Rattle.std.specs.Prelude.{◌≡◌, ℕ, Bool, List, length, is_some, Some, None, Ok, Err, Option, Result, MatchResult}
+use Rattle.std.specs.Prelude.{◌≡◌, ℕ, Bool, List, length, Some, None, Ok, Err, Option, Result}
 use Rattle.map.specs.declared.roads.Road.{Road}
 use Rattle.map.specs.Model.{MapModel}
 use Rattle.entries.specs.declared.refusals.Refusal.{Refusal}
 use Rattle.entries.specs.declared.refusals.Refusal.TheVariants.{NoSuchRoad}
 use Rattle.entries.specs.Answers.{put_answer, remove_answer}
 use Rattle.entries.specs.Entries.{entry_for, Put, Lost}
-use Rattle.layers.specs.declared.layer.Layer.{Layer}
-use Rattle.layers.specs.Histories.{last_on, ByHistory, many}
+use Rattle.layers.specs.Histories.{last_on, many}
 use Rattle.layers.specs.Rules.{Rules}
 
 -- The answer a where the map below has the road, and otherwise that there is no such road (11).
@@ -45,11 +44,3 @@ pub record Left {E C V : Type 0} (road_of : E → ℕ) (k : Rules E C V) (h : Li
 -- What a call answers: the map below and the history decide it.
 abbrev pub answer_by : {E C V : Type 0} → Result Unit Refusal → Rules E C V → MapModel → List C → C → Result Unit Refusal
 answer_by again k m h call = on_road (m.road (k.named call)) (table_answer again (k.entry_of call) (k.counted (said_by k h (k.named call))) (count_by k h))
-
--- A call on a layer over a map that means m. An accepted one gives its road the entry, and a refused one changes nothing
--- at all.
-pub record Called {E C V G A : Type 0} (road_of : E → ℕ) (again : Result Unit Refusal) (k : Rules E C V) (m : MapModel) (call : C) (before after : Layer G E A) (a : Result Unit Refusal) : Type 0 where
-  pub answer : a ≡ on_road (m.road (k.named call)) (table_answer again (k.entry_of call) (is_some (entry_for road_of before.roads (k.named call))) (length before.roads))
-  pub change : MatchResult a (λ _. Given road_of (k.entry_of call) (k.named call) before.roads after.roads) (λ _. after ≡ before)
-  pub below : after.below ≡ before.below
-  pub history : (h : List C) → Left road_of k h before.roads → ByHistory (answer_by again k m) (λ h l. Left road_of k h l.roads) h call a after

@@ -1,3 +1,4 @@
+pub mod Calls
 pub mod Closures
 pub mod Histories
 pub mod Laws

@@ -3,8 +3,9 @@ ghost use Rattle.std.specs.Prelude.{◌≡◌, ℕ, true, List, [], length, is_s
 ghost use Rattle.std.specs.Option.{option_map};
 ghost use Rattle.map.specs.Through.{through};
 ghost use Rattle.entries.specs.Entries.{entry_for, Limited};
+ghost use Rattle.entries.proofs.Limits.{limited_prop};
 ghost use Rattle.layers.specs.Histories.{history_of};
-ghost use Rattle.layers.specs.Layers.{Left, Called, count_by, said_by, answer_by};
+ghost use Rattle.layers.specs.Layers.{Left, count_by, said_by, answer_by};
 
 use crate::kinds::Kind;
 use entries::entry::{Entry, Places};
@@ -22,13 +23,14 @@ use map::roads::Road;
 pub struct Layer<G, E: Entry, A: Places<E>> {
     pub below: G,
     roads: Entries<E, A>,
+    ghost limited: { Limited E.Entry.road roads } by { limited_prop E.Entry.road roads },
 }
 
 impl<G, E: Kind, A: Places<E>> Layer<G, E, A> {
     /// A layer without entries.
     pub fn new(below: G) -> Self
         ensures below { result.below ≡ below }
-        ensures history { Left E.Entry.road E.Kind.rules [] result.roads }
+        ensures history { Left E.Entry.road E.Kind.rules [] result.roads.used }
     {
         Layer {
             below,
@@ -38,16 +40,18 @@ impl<G, E: Kind, A: Places<E>> Layer<G, E, A> {
 
     /// Whether the layer has no entry. One counts even where the road reads the same below.
     pub fn is_empty(&self) -> bool
-        ensures count { result ≡ (length self.now.roads == 0) }
-        ensures none { result ≡ true → (q : ℕ) → entry_for E.Entry.road self.now.roads q ≡ None }
+        ensures count { result ≡ (length self.now.roads.used == 0) }
+        ensures none { result ≡ true → (q : ℕ) → entry_for E.Entry.road self.now.roads.used q ≡ None }
         ensures limits { Limited E.Entry.road self.now.roads }
-        ensures history { (h : List E.Call) → Left E.Entry.road E.Kind.rules h self.now.roads → result ≡ (count_by E.Kind.rules h == 0) }
+        ensures history { (h : List E.Call) → Left E.Entry.road E.Kind.rules h self.now.roads.used → result ≡ (count_by E.Kind.rules h == 0) }
     {
         self.roads.is_empty()
     }
 }
 
 impl<G: Map, E: Kind, A: Places<E>> Layer<G, E, A> {
+    ghost use Rattle.layers.specs.Calls.{Called};
+
     /// Performs a call.
     pub(crate) fn call(&mut self, call: E::Call) -> Result<(), Refusal>
         ensures { Called E.Entry.road E.Entry.again E.Kind.rules (G.Map.model self.old.below) call self.old self.new result }
@@ -61,7 +65,7 @@ impl<G: Map, E: Kind, A: Places<E>> Layer<G, E, A> {
     /// Performs the calls in turn on a new layer over the map, whether they are accepted or refused.
     pub fn run(below: G, calls: &[E::Call]) -> Self
         ensures below { result.below ≡ below }
-        ensures history { Left E.Entry.road E.Kind.rules (history_of (answer_by E.Entry.again E.Kind.rules (G.Map.model below)) [] calls.now) result.roads }
+        ensures history { Left E.Entry.road E.Kind.rules (history_of (answer_by E.Entry.again E.Kind.rules (G.Map.model below)) [] calls.now) result.roads.used }
     {
         let mut layer = Layer::new(below);
         layer.perform(calls);
@@ -82,7 +86,7 @@ impl<G: Map, E: Kind, A: Places<E>> Layer<G, E, A> {
     /// Performs the calls in turn.
     fn perform(&mut self, calls: &[E::Call])
         ensures below { self.new.below ≡ self.old.below }
-        ensures history { (h : List E.Call) → Left E.Entry.road E.Kind.rules h self.old.roads → Left E.Entry.road E.Kind.rules (history_of (answer_by E.Entry.again E.Kind.rules (G.Map.model self.old.below)) h calls.now) self.new.roads }
+        ensures history { (h : List E.Call) → Left E.Entry.road E.Kind.rules h self.old.roads.used → Left E.Entry.road E.Kind.rules (history_of (answer_by E.Entry.again E.Kind.rules (G.Map.model self.old.below)) h calls.now) self.new.roads.used }
     {
         for call in calls {
             let _ = self.call(*call);
@@ -92,15 +96,16 @@ impl<G: Map, E: Kind, A: Places<E>> Layer<G, E, A> {
 
 /// No entries: what a history without calls leaves.
 fn no_entries<E: Kind, A: Places<E>>() -> Entries<E, A>
-    ensures { Left E.Entry.road E.Kind.rules [] result }
+    ensures left { Left E.Entry.road E.Kind.rules [] result.used }
+    ensures limits { Limited E.Entry.road result }
 {
     Entries::new()
 }
 
 impl<G: Map, E: Kind, A: Places<E>> Map for Layer<G, E, A> {
-    ghost model = { λ c. through (λ r. E.Kind.rules.reads (E.Kind.rules.shows (entry_for E.Entry.road c.roads r))) (G.Map.model c.below) };
+    ghost model = { λ c. through (λ r. E.Kind.rules.reads (E.Kind.rules.shows (entry_for E.Entry.road c.roads.used r))) (G.Map.model c.below) };
 
-    ghost sound = { λ c. E.Kind.well (entry_for E.Entry.road c.roads) (G.Map.model c.below) (G.Map.sound c.below) };
+    ghost sound = { λ c. E.Kind.well (entry_for E.Entry.road c.roads.used) (G.Map.model c.below) (G.Map.sound c.below) };
 
     fn places(&self) -> usize {
         self.below.places()
@@ -119,8 +124,8 @@ impl<G: Map, E: Kind, A: Places<E>> Map for Layer<G, E, A> {
     }
 
     fn road(&self, number: RoadId) -> Option<Road>
-        ensures read { result ≡ option_map (E.Kind.rules.reads (E.Kind.rules.shows (entry_for E.Entry.road self.now.roads number.0))) ((G.Map.model self.now.below).road number.0) }
-        ensures history { (h : List E.Call) → Left E.Entry.road E.Kind.rules h self.now.roads → result ≡ option_map (E.Kind.rules.reads (said_by E.Kind.rules h number.0)) ((G.Map.model self.now.below).road number.0) }
+        ensures read { result ≡ option_map (E.Kind.rules.reads (E.Kind.rules.shows (entry_for E.Entry.road self.now.roads.used number.0))) ((G.Map.model self.now.below).road number.0) }
+        ensures history { (h : List E.Call) → Left E.Entry.road E.Kind.rules h self.now.roads.used → result ≡ option_map (E.Kind.rules.reads (said_by E.Kind.rules h number.0)) ((G.Map.model self.now.below).road number.0) }
     {
         let road = self.below.road(number)?;
         Some(E::read(self.roads.get(number), road))

@@ -20,36 +20,36 @@ module _ {K T M G : Type 0} (thing : K → T) (leq : T → T → Bool) (plus : K
 
   -- the unit with another layer of slowdowns
   abbrev above : Slowdowns G → MapUnit M G
-  above s = over (record { below = s; roads = before.map.roads })
+  above s = over (record { below = s; roads = before.map.roads; limited = before.map.limited })
 
-  pub closing : (m : Closures (Slowdowns G)) (a : Result Unit LayerRefusal) → LayerClosing (slowing (figure before.map.below.roads) base) road before.map m a →
+  pub closing : (m : Closures (Slowdowns G)) (a : Result Unit LayerRefusal) → LayerClosing (slowing (figure before.map.below.roads.used) base) road before.map m a →
       Closing thing leq plus nil blocked price decoded base road before (over m) (lifted a)
   closing m (Ok u) c = record {
-    answer = ap lifted (c.answer ∙ close_through (slowed (figure before.map.below.roads road.0)) (base.road road.0) (holds before.map.roads road.0) (length before.map.roads));
+    answer = ap lifted (c.answer ∙ close_through (slowed (figure before.map.below.roads.used road.0)) (base.road road.0) (holds before.map.roads.used road.0) (length before.map.roads.used));
     change = c.change;
     below = c.below;
     table = refl;
     history = λ h was. left_close thing leq plus nil blocked price decoded base h before.table road before.map m was (Ok u) c;
   }
   closing m (Err e) c = record {
-    answer = ap lifted (c.answer ∙ close_through (slowed (figure before.map.below.roads road.0)) (base.road road.0) (holds before.map.roads road.0) (length before.map.roads));
+    answer = ap lifted (c.answer ∙ close_through (slowed (figure before.map.below.roads.used road.0)) (base.road road.0) (holds before.map.roads.used road.0) (length before.map.roads.used));
     change = ap over c.change;
     below = c.below;
     table = refl;
     history = λ h was. left_close thing leq plus nil blocked price decoded base h before.table road before.map m was (Err e) c;
   }
 
-  pub opening : (m : Closures (Slowdowns G)) (a : Result Unit LayerRefusal) → LayerOpening (slowing (figure before.map.below.roads) base) road before.map m a →
+  pub opening : (m : Closures (Slowdowns G)) (a : Result Unit LayerRefusal) → LayerOpening (slowing (figure before.map.below.roads.used) base) road before.map m a →
       Opening thing leq plus nil blocked price decoded base road before (over m) (lifted a)
   opening m (Ok u) c = record {
-    answer = ap lifted (c.answer ∙ open_through (slowed (figure before.map.below.roads road.0)) (base.road road.0) (holds before.map.roads road.0));
+    answer = ap lifted (c.answer ∙ open_through (slowed (figure before.map.below.roads.used road.0)) (base.road road.0) (holds before.map.roads.used road.0));
     change = c.change;
     below = c.below;
     table = refl;
     history = λ h was. left_open thing leq plus nil blocked price decoded base h before.table road before.map m was (Ok u) c;
   }
   opening m (Err e) c = record {
-    answer = ap lifted (c.answer ∙ open_through (slowed (figure before.map.below.roads road.0)) (base.road road.0) (holds before.map.roads road.0));
+    answer = ap lifted (c.answer ∙ open_through (slowed (figure before.map.below.roads.used road.0)) (base.road road.0) (holds before.map.roads.used road.0));
     change = ap over c.change;
     below = c.below;
     table = refl;

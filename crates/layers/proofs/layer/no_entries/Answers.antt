@@ -4,11 +4,11 @@ use Rattle.layers.specs.Layers.{said_by}
 use Rattle.layers.proofs.Counting.{many_none}
 use Rattle.layers.proofs.layer.no_entries.Goals as goal
 
-pub returns : goal.returns
+pub returns-clause-left : goal.returns-clause-left
 unfolding entry_for
-returns g c =
+returns-clause-left g c =
     let k = g.E.Kind.rules in
     let laws = g.met.E.Kind.laws in record {
-      reads = λ q. ap (λ es. k.shows (entry_for g.E.Entry.road es q)) c.new.ensures ∙ laws.blank;
-      count = ap length c.new.ensures ∙ sym (many_none (λ q. k.counted (said_by k [] q)) 65536 (λ q. ap k.counted (sym laws.blank) ∙ laws.counts None));
+      reads = λ q. ap (λ es. k.shows (entry_for g.E.Entry.road es q)) c.new.ensures.none ∙ laws.blank;
+      count = ap length c.new.ensures.none ∙ sym (many_none (λ q. k.counted (said_by k [] q)) 65536 (λ q. ap k.counted (sym laws.blank) ∙ laws.counts None));
     }

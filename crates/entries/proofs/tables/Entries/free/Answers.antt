@@ -1,6 +1,6 @@
-use Rattle.std.proofs.Common.{◌≡◌, ◌-◌, get_or, take, set, sym, ap, ◌∙◌, subst, arith}
-use Rattle.entries.specs.Entries.{Tidy, Lost}
-use Rattle.entries.proofs.Changes.{InUse, many, tidy_freed, lost_freed}
+use Rattle.std.proofs.Common.{◌≡◌, ◌-◌, get_or, set, sym, ap, ◌∙◌, subst, arith}
+use Rattle.entries.specs.Entries.{kept, Tidy, Lost}
+use Rattle.entries.proofs.Changes.{InUse, many, limited, tidy_freed, lost_freed}
 use Rattle.entries.proofs.tables.Entries.free.Goals as goal
 use Rattle.entries.proofs.tables.Entries.free.Goals.{After-place}
 
@@ -21,9 +21,12 @@ invariant_of-self g c =
     subst (Tidy g.E.Entry.road (c.self.inside.len - 1)) (sym (moved g c))
     (tidy_freed u (c.self.inside.len - 1) c.args.i c.index-as_slice-self.result (omega arith) c.requires)
 
-pub returns : goal.returns
-returns g c = λ r f.
+pub returns-clause-lost : goal.returns-clause-lost
+returns-clause-lost g c = λ r f.
     let u = in_use g c in
     let n = many u in
-    subst (λ xs. Lost g.E.Entry.road c.args.self.now (take (c.self.inside.len - 1) xs) r) (sym (moved g c))
+    subst (λ xs. Lost g.E.Entry.road c.args.self.now.used (kept (c.self.inside.len - 1) xs).used r) (sym (moved g c))
     (lost_freed u (c.self.inside.len - 1) c.args.i c.index-as_slice-self.result (omega arith) f.0 r f.1)
+
+pub returns-clause-limits : goal.returns-clause-limits
+returns-clause-limits g c = limited g.E.Entry.road _ _ (invariant_of-self g c)

@@ -1,5 +1,5 @@
 use Rattle.std.proofs.Common.{◌≡◌, set, arith, MatchResult}
-use Rattle.entries.proofs.Changes.{InUse, many, stood, tidy_renewed, put_renewed}
+use Rattle.entries.proofs.Changes.{InUse, many, limited, stood, tidy_renewed, put_renewed}
 use Rattle.entries.proofs.tables.Entries.renew.Goals as goal
 use Rattle.entries.proofs.tables.Entries.renew.Goals.{After-renew}
 
@@ -24,3 +24,6 @@ pub returns-clause-after : goal.returns-clause-after
 returns-clause-after g c =
     let own = c.requires in
     put_renewed (in_use g c) c.args.i c.args.entry own.0 own.1 c.renew.result (g.A.Places.items c.renew.new.self) (after g c)
+
+pub returns-clause-limits : goal.returns-clause-limits
+returns-clause-limits g c = limited g.E.Entry.road _ _ (invariant_of-self g c)
