@@ -3,7 +3,7 @@ use Rattle.std.specs.Prelude.{◌≡◌, ℕ, ◌+◌, ◌<◌, Bool, true, fals
 use Rattle.map.specs.declared.numbers.RoadId.{RoadId}
 use Rattle.entries.specs.declared.refusals.Refusal.{Refusal}
 use Rattle.entries.specs.declared.refusals.Refusal.TheVariants.{AlreadyClosed, TooSlow}
-use Rattle.entries.specs.declared.slowdown.Slowdown.{Slowdown}
+use Rattle.entries.specs.declared.slowdown.Figure.{Figure}
 use Rattle.entries.specs.Answers.{put_answer}
 use Rattle.entries.specs.Entries.{closed_road, entry_for, Lost}
 use Rattle.entries.specs.Slowdowns.{slow_road, figure_in}
@@ -29,7 +29,7 @@ Removed before after r = Lost closed_road before after r
 
 -- ---- slowed roads
 -- The figure of the road r, if it has one.
-abbrev pub figure : List Slowdown → ℕ → Option ℕ
+abbrev pub figure : List Figure → ℕ → Option ℕ
 figure t r = figure_in t r
 
 -- What setting the figure f of a road answers: whether it is too long comes first, then whether there is room for it, in
@@ -39,12 +39,12 @@ set_answer f own count = cond (nat_lt 60000 f) (Err TooSlow) (put_answer (Ok tt)
 
 -- The road r has the figure f: in its own entry if it had one, and otherwise in one more. Every other road's figure is
 -- as before, and its entry stands where it stood.
-pub record Slowed (before after : List Slowdown) (r f : ℕ) : Type 0 where
+pub record Slowed (before after : List Figure) (r f : ℕ) : Type 0 where
   pub reads : (q : ℕ) → figure after q ≡ cond (r == q) (Some f) (figure before q)
   pub count : length after ≡ length before + cond (is_some (figure before r)) 0 1
-  pub elsewhere : (i : ℕ) (d : Slowdown) → i < length before → slow_road (slice_index_or before i d) ≢ r →
+  pub elsewhere : (i : ℕ) (d : Figure) → i < length before → slow_road (slice_index_or before i d) ≢ r →
       slice_index_or after i d ≡ slice_index_or before i d
 
 -- The road r, which had a figure, has none, with one entry less, and every other road's figure is as before.
-abbrev pub Cleared : (before after : List Slowdown) → ℕ → Type 0
+abbrev pub Cleared : (before after : List Figure) → ℕ → Type 0
 Cleared before after r = Lost slow_road before after r

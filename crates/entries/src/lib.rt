@@ -10,5 +10,5 @@ pub mod tables;
 
 pub use entry::{Entry, Places};
 pub use refusals::Refusal;
-pub use slowdown::Slowdown;
+pub use slowdown::{Figure, Slowdown};
 pub use tables::{ClosedRoads, Entries, SlowedRoads};

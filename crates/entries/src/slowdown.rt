@@ -7,25 +7,33 @@ use map::numbers::RoadId;
 /// The longest that a road may take, in seconds.
 pub const LONGEST: u16 = 60_000;
 
-/// A road and its figure: how many seconds it is to take at least, which are 60,000 or fewer.
+/// A road and its figure: how many seconds it is to take at least.
 #[derive(Clone, Copy, PartialEq, Eq, Debug)]
 pub struct Slowdown {
+    pub road: RoadId,
+    pub seconds: u16,
+}
+
+/// A slowdown that a table may keep: its seconds are 60,000 or fewer.
+#[derive(Clone, Copy, PartialEq, Eq, Debug)]
+pub struct Figure {
     pub road: RoadId,
     pub seconds: u16,
     pub ghost short: { seconds ≤ 60000 },
 }
 
-impl Slowdown {
+impl Figure {
     ghost use Rattle.entries.specs.Slowdowns.{slowdown};
 
-    /// The figure of a road, if it is not too long.
-    pub fn new(road: RoadId, seconds: u16) -> Result<Self, Refusal>
-        ensures { result ≡ slowdown road seconds }
+    /// The figure that a slowdown asks for, if it is not too long.
+    pub fn new(asked: Slowdown) -> Result<Self, Refusal>
+        ensures { result ≡ slowdown asked.road asked.seconds }
     {
+        let Slowdown { road, seconds } = asked;
         if seconds > LONGEST {
             return Err(Refusal::TooSlow);
         }
-        Ok(Slowdown { road, seconds })
+        Ok(Figure { road, seconds })
     }
 
     /// Gives the road another figure.

@@ -6,17 +6,17 @@ ghost use Rattle.entries.specs.Tables.{figure, set_answer, Slowed};
 
 use crate::entry::Entry;
 use crate::refusals::Refusal;
-use crate::slowdown::Slowdown;
+use crate::slowdown::{Figure, Slowdown};
 use crate::tables::SlowedRoads;
 use map::numbers::RoadId;
 
-impl Entry for Slowdown {
+impl Entry for Figure {
     ghost road = { slow_road };
 
     ghost again = { Ok tt };
 
     fn blank() -> Self {
-        Slowdown {
+        Figure {
             road: RoadId(0),
             seconds: 0,
         }
@@ -47,8 +47,8 @@ impl SlowedRoads {
         ensures after { MatchResult result (λ _. Slowed self.old.used self.new.used road.0 seconds) (λ _. self.new ≡ self.old) }
         ensures limits { Limited slow_road self.new }
     {
-        // Its limits hold where the figure is too long too.
+        // A read of a field, which tells the proof the limits where the figure is too long too.
         let _ = &self.len;
-        self.put(Slowdown::new(road, seconds)?)
+        self.put(Figure::new(Slowdown { road, seconds })?)
     }
 }

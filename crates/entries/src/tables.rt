@@ -5,7 +5,7 @@ ghost use Rattle.entries.specs.Answers.{put_answer, remove_answer};
 
 use crate::entry::{Entry, Places};
 use crate::refusals::Refusal;
-use crate::slowdown::Slowdown;
+use crate::slowdown::Figure;
 use map::numbers::RoadId;
 use std::marker::{Model, PhantomData};
 
@@ -27,7 +27,7 @@ pub struct Entries<E: Entry, A: Places<E>> {
 pub type ClosedRoads = Entries<RoadId, [RoadId; ROOM]>;
 
 /// Up to 64 different roads with a figure of at most 60,000 seconds each.
-pub type SlowedRoads = Entries<Slowdown, [Slowdown; ROOM]>;
+pub type SlowedRoads = Entries<Figure, [Figure; ROOM]>;
 
 impl<E: Entry, A: Places<E>> Model for Entries<E, A> {
     ghost use Rattle.entries.specs.Entries.{Kept, kept, Tidy};

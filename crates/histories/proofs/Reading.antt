@@ -8,7 +8,7 @@ use Rattle.map.specs.declared.roads.Road.{Road}
 use Rattle.map.specs.Model.{MapModel, WellFormed}
 use Rattle.map.specs.Through.{through}
 use Rattle.map.proofs.Through.{was}
-use Rattle.entries.specs.declared.slowdown.Slowdown.{Slowdown}
+use Rattle.entries.specs.declared.slowdown.Figure.{Figure}
 use Rattle.entries.specs.Entries.{entry_for}
 use Rattle.entries.specs.Slowdowns.{slow_road}
 use Rattle.entries.specs.Tables.{holds, figure}
@@ -78,7 +78,7 @@ unfolding entry_for
 none_closed [] r e = refl
 none_closed (x ∷ t) r e = let no' : ⊥ = omega arith in absurd no'
 
-none_slowed : (t : List Slowdown) (r : ℕ) → length t ≡ 0 → figure t r ≡ None
+none_slowed : (t : List Figure) (r : ℕ) → length t ≡ 0 → figure t r ≡ None
 unfolding entry_for
 none_slowed [] r e = refl
 none_slowed (x ∷ t) r e = let no' : ⊥ = omega arith in absurd no'

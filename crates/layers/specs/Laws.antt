@@ -3,7 +3,7 @@ use Rattle.std.proofs.Common.{◌≡◌, ℕ, Bool, true, false, cond, ltb, List
 use Rattle.map.specs.declared.numbers.RoadId.{RoadId}
 use Rattle.map.specs.Model.{MapModel}
 use Rattle.entries.specs.declared.refusals.Refusal.TheVariants.{TooSlow}
-use Rattle.entries.specs.declared.slowdown.Slowdown.{Slowdown}
+use Rattle.entries.specs.declared.slowdown.Figure.{Figure}
 use Rattle.entries.specs.Answers.{put_answer}
 use Rattle.entries.specs.Entries.{closed_road}
 use Rattle.entries.specs.Slowdowns.{slow_road, slowdown_if}
@@ -32,11 +32,11 @@ closure_laws = record {
     says (Close q) own is = let z : own ≡ Some q = cc in ap closure_rules.shows z
     says (Open q) own is = let z : own ≡ None = cc in ap closure_rules.shows z
 
-own_road_if : (q : RoadId) (f : ℕ) (e : Slowdown) (over : Bool) (o : ltb 60000 f ≡ over) → some_entry (slowdown_if q f over o) ≡ Ok (Some e) → slow_road e ≡ q.0
+own_road_if : (q : RoadId) (f : ℕ) (e : Figure) (over : Bool) (o : ltb 60000 f ≡ over) → some_entry (slowdown_if q f over o) ≡ Ok (Some e) → slow_road e ≡ q.0
 own_road_if q f e true o is = cc
 own_road_if q f e false o is = let z : e ≡ record { road = q; seconds = f; short = ltb-false _ _ o } = cc in ap slow_road z
 
-says_if : (q : RoadId) (f : ℕ) (own : Option Slowdown) (over : Bool) (o : ltb 60000 f ≡ over) → some_entry (slowdown_if q f over o) ≡ Ok own → slowdown_rules.shows own ≡ Some f
+says_if : (q : RoadId) (f : ℕ) (own : Option Figure) (over : Bool) (o : ltb 60000 f ≡ over) → some_entry (slowdown_if q f over o) ≡ Ok own → slowdown_rules.shows own ≡ Some f
 says_if q f own true o is = cc
 says_if q f own false o is = let z : own ≡ Some (record { road = q; seconds = f; short = ltb-false _ _ o }) = cc in ap slowdown_rules.shows z
 
@@ -54,15 +54,15 @@ slowdown_laws = record {
   says = says;
 }
   where
-    counts : (own : Option Slowdown) → slowdown_rules.counted (slowdown_rules.shows own) ≡ is_some own
+    counts : (own : Option Figure) → slowdown_rules.counted (slowdown_rules.shows own) ≡ is_some own
     counts None = refl
     counts (Some e) = refl
 
-    own_road : (call : SlowdownCall) (e : Slowdown) → slowdown_rules.entry_of call ≡ Ok (Some e) → slow_road e ≡ slowdown_rules.named call
+    own_road : (call : SlowdownCall) (e : Figure) → slowdown_rules.entry_of call ≡ Ok (Some e) → slow_road e ≡ slowdown_rules.named call
     own_road (Slow q f) e is = own_road_if q f e (ltb 60000 f) refl is
     own_road (Clear q) e is = cc
 
-    says : (call : SlowdownCall) (own : Option Slowdown) → slowdown_rules.entry_of call ≡ Ok own → slowdown_rules.shows own ≡ slowdown_rules.leaves (Some call)
+    says : (call : SlowdownCall) (own : Option Figure) → slowdown_rules.entry_of call ≡ Ok own → slowdown_rules.shows own ≡ slowdown_rules.leaves (Some call)
     says (Slow q f) own is = says_if q f own (ltb 60000 f) refl is
     says (Clear q) own is = let z : own ≡ None = cc in ap slowdown_rules.shows z
 

@@ -6,7 +6,7 @@ use Rattle.map.specs.Model.{MapModel}
 use Rattle.entries.specs.declared.entry.Entry.{Ghosts as EntryOf}
 use Rattle.entries.specs.declared.entry.Places.{Ghosts as PlacesOf}
 use Rattle.entries.specs.declared.refusals.Refusal.{Refusal}
-use Rattle.entries.specs.declared.slowdown.Slowdown.{Slowdown}
+use Rattle.entries.specs.declared.slowdown.Figure.{Figure}
 use Rattle.entries.specs.Answers.{remove_answer}
 use Rattle.entries.specs.Slowdowns.{slow_road, slowdown}
 use Rattle.entries.specs.Tables.{figure, set_answer, Slowed, Cleared}
@@ -32,31 +32,31 @@ figure_of (Some (Slow q f)) = Some f
 figure_of (Some (Clear q)) = None
 
 -- That entry, or why there is none.
-abbrev pub some_entry : Result Slowdown Refusal → Result (Option Slowdown) Refusal
+abbrev pub some_entry : Result Figure Refusal → Result (Option Figure) Refusal
 some_entry (Ok e) = Ok (Some e)
 some_entry (Err r) = Err r
 
 -- The entry that a call gives its road: a slow one with the figure, unless that is too long, a clear none.
-abbrev pub entry_of : SlowdownCall → Result (Option Slowdown) Refusal
+abbrev pub entry_of : SlowdownCall → Result (Option Figure) Refusal
 entry_of (Slow q f) = some_entry (slowdown q f)
 entry_of (Clear q) = Ok None
 
 -- A road has the figure of its entry or, by the history, that of the last call on it if that was a slow, and then takes
 -- at least that long.
-abbrev pub slowdown_rules : Rules Slowdown SlowdownCall (Option ℕ)
+abbrev pub slowdown_rules : Rules Figure SlowdownCall (Option ℕ)
 slowdown_rules = record { shows = option_map (λ e. e.seconds); counted = is_some; reads = slowed; named = road_named; entry_of = entry_of; leaves = figure_of }
 
 -- ---- what its history makes of it
 -- The entries of such a layer are slowdowns, and its places a list of them.
-abbrev pub slow_entries : EntryOf Slowdown
+abbrev pub slow_entries : EntryOf Figure
 slow_entries = record { road = slow_road; again = Ok tt }
 
-abbrev pub slow_places : PlacesOf (List Slowdown) Slowdown
+abbrev pub slow_places : PlacesOf (List Figure) Figure
 slow_places = record { items = λ places. places }
 
 -- A layer of slowdowns over a map of the type G.
 abbrev pub Slowdowns : Type 0 → Type 0
-Slowdowns G = Layer G Slowdown (List Slowdown) slow_entries slow_places
+Slowdowns G = Layer G Figure (List Figure) slow_entries slow_places
 
 -- The figure of the road r: that of its last accepted slow, if no accepted clear of it came later.
 abbrev pub figure_by : List SlowdownCall → ℕ → Option ℕ

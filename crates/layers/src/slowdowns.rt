@@ -5,16 +5,16 @@ use crate::calls::SlowdownCall;
 use crate::kinds::Kind;
 use crate::layer::Layer;
 use entries::refusals::Refusal;
-use entries::slowdown::Slowdown;
+use entries::slowdown::{Figure, Slowdown};
 use entries::tables::ROOM;
 use map::maps::Map;
 use map::numbers::RoadId;
 use map::roads::Road;
 
 /// A layer in which up to 64 roads have a figure and take at least that many seconds.
-pub type Slowdowns<G> = Layer<G, Slowdown, [Slowdown; ROOM]>;
+pub type Slowdowns<G> = Layer<G, Figure, [Figure; ROOM]>;
 
-impl Kind for Slowdown {
+impl Kind for Figure {
     ghost use Rattle.std.specs.Prelude.{◌≡◌, ℕ, Option};
     ghost use Rattle.std.specs.Option.{option_map};
     ghost use Rattle.entries.specs.Readings.{slowed};
@@ -39,7 +39,7 @@ impl Kind for Slowdown {
 
     fn entry(call: SlowdownCall) -> Result<Option<Self>, Refusal> {
         match call {
-            SlowdownCall::Slow(road, seconds) => Ok(Some(Slowdown::new(road, seconds)?)),
+            SlowdownCall::Slow(road, seconds) => Ok(Some(Figure::new(Slowdown { road, seconds })?)),
             SlowdownCall::Clear(_) => Ok(None),
         }
     }
