@@ -6,6 +6,7 @@ ghost use Rattle.entries.specs.Answers.{put_answer, remove_answer};
 use crate::entry::{Entry, Places};
 use crate::refusals::Refusal;
 use crate::slowdown::Figure;
+pub use crate::slowdown::LONGEST;
 use map::numbers::RoadId;
 use std::marker::{Model, PhantomData};
 

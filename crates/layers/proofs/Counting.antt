@@ -8,7 +8,7 @@ unfolding many
 many_none f zero h = refl
 many_none f (suc n) h = rw (h n) (let k = many_none f n h in omega arith)
 
-many_same : (f g : ℕ → Bool) (n : ℕ) → ((q : ℕ) → q < n → g q ≡ f q) → many g n ≡ many f n
+pub many_same : (f g : ℕ → Bool) (n : ℕ) → ((q : ℕ) → q < n → g q ≡ f q) → many g n ≡ many f n
 unfolding many
 many_same f g zero h = refl
 many_same f g (suc n) h = rw (h n (omega arith), many_same f g n (λ q l. h q (omega arith)))
