@@ -39,15 +39,15 @@ module _ {K T G : Type 0} (thing : K → T) (leq : T → T → Bool) (plus : K �
     count = rw e was.closures.count;
   }
 
-  closed_answered : {a : Result Unit LayerRefusal} → a ≡ close_answer (option_map (slowed (figure before.below.roads.used road.0)) (base.road road.0)) (closed_by (closure_calls h) road.0) (closures_by (closure_calls h)) →
+  closed_answered : {a : Result Unit LayerRefusal} → a ≡ close_answer (option_map (slowed (figure before.below.roads.entries.used road.0)) (base.road road.0)) (closed_by (closure_calls h) road.0) (closures_by (closure_calls h)) →
       lifted a ≡ closure_answer base h (CloseRoad road)
-  closed_answered e = ap lifted (e ∙ close_through (slowed (figure before.below.roads.used road.0)) (base.road road.0) (closed_by (closure_calls h) road.0) (closures_by (closure_calls h)))
+  closed_answered e = ap lifted (e ∙ close_through (slowed (figure before.below.roads.entries.used road.0)) (base.road road.0) (closed_by (closure_calls h) road.0) (closures_by (closure_calls h)))
 
-  opened_answered : {a : Result Unit LayerRefusal} → a ≡ open_answer (option_map (slowed (figure before.below.roads.used road.0)) (base.road road.0)) (closed_by (closure_calls h) road.0) →
+  opened_answered : {a : Result Unit LayerRefusal} → a ≡ open_answer (option_map (slowed (figure before.below.roads.entries.used road.0)) (base.road road.0)) (closed_by (closure_calls h) road.0) →
       lifted a ≡ closure_answer base h (OpenRoad road)
-  opened_answered e = ap lifted (e ∙ open_through (slowed (figure before.below.roads.used road.0)) (base.road road.0) (closed_by (closure_calls h) road.0))
+  opened_answered e = ap lifted (e ∙ open_through (slowed (figure before.below.roads.entries.used road.0)) (base.road road.0) (closed_by (closure_calls h) road.0))
 
-  pub left_close : (a : Result Unit LayerRefusal) → Closing (slowing (figure before.below.roads.used) base) road before after a →
+  pub left_close : (a : Result Unit LayerRefusal) → Closing (slowing (figure before.below.roads.entries.used) base) road before after a →
       ByHistory thing leq plus nil blocked price decoded base h (Close road) (closure_answer base h (CloseRoad road)) (lifted a) after table
   left_close (Ok u) c = let b = c.history (closure_calls h) was.closures in record {
     answered = closed_answered b.answered;
@@ -58,7 +58,7 @@ module _ {K T G : Type 0} (thing : K → T) (leq : T → T → Bool) (plus : K �
     left = record { closures = b.left; slowdowns = same_slowdowns c.below; prepared = was.prepared; rows = was.rows };
   }
 
-  pub left_open : (a : Result Unit LayerRefusal) → Opening (slowing (figure before.below.roads.used) base) road before after a →
+  pub left_open : (a : Result Unit LayerRefusal) → Opening (slowing (figure before.below.roads.entries.used) base) road before after a →
       ByHistory thing leq plus nil blocked price decoded base h (Open road) (closure_answer base h (OpenRoad road)) (lifted a) after table
   left_open (Ok u) c = let b = c.history (closure_calls h) was.closures in record {
     answered = opened_answered b.answered;

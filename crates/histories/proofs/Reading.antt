@@ -92,29 +92,29 @@ module _ {K T G : Type 0} (thing : K → T) (leq : T → T → Bool) (plus : K �
     (base : MapModel) (h : List Call) (map : Closures (Slowdowns G)) (table : Table)
     (left : LeftBy thing leq plus nil blocked price decoded base h map table) where
   -- the map reads as the history says
-  pub map_is : closing (holds map.roads.used) (slowing (figure map.below.roads.used) base) ≡ map_after base h
+  pub map_is : closing (holds map.roads.entries.used) (slowing (figure map.below.roads.entries.used) base) ≡ map_after base h
   map_is =
-      let closed : holds map.roads.used ≡ is_closed h = λ k r. left.closures.reads r k in
-      let figures : figure map.below.roads.used ≡ figure_now h = λ k r. left.slowdowns.reads r k in
-      ap (λ (c : ℕ → Bool). closing c (slowing (figure map.below.roads.used) base)) closed
+      let closed : holds map.roads.entries.used ≡ is_closed h = λ k r. left.closures.reads r k in
+      let figures : figure map.below.roads.entries.used ≡ figure_now h = λ k r. left.slowdowns.reads r k in
+      ap (λ (c : ℕ → Bool). closing c (slowing (figure map.below.roads.entries.used) base)) closed
       ∙ ap (λ (f : ℕ → Option ℕ). closing (is_closed h) (slowing f base)) figures
 
   -- and has entries where the history says
-  pub empty_is : (eqb (length map.roads.used) 0 && eqb (length map.below.roads.used) 0) ≡ no_entries h
+  pub empty_is : (eqb (length map.roads.entries.used) 0 && eqb (length map.below.roads.entries.used) 0) ≡ no_entries h
   empty_is = rw (left.closures.count, left.slowdowns.count)
 
   pub consistent : WellFormed base →
-      Consistent thing leq plus nil blocked price (closing (holds map.roads.used) (slowing (figure map.below.roads.used) base)) base (stored decoded table)
-      (eqb (length map.roads.used) 0 && eqb (length map.below.roads.used) 0)
+      Consistent thing leq plus nil blocked price (closing (holds map.roads.entries.used) (slowing (figure map.below.roads.entries.used) base)) base (stored decoded table)
+      (eqb (length map.roads.entries.used) 0 && eqb (length map.below.roads.entries.used) 0)
   consistent fits =
-      let slow = slowing (figure map.below.roads.used) base in
+      let slow = slowing (figure map.below.roads.entries.used) base in
       record {
         base_fits = fits;
-        now_fits = closing_well (holds map.roads.used) slow (slowing_well (entry_for slow_road map.below.roads.used) base fits);
-        layered = layered_over base slow (closing (holds map.roads.used) slow) (slowing_layered (figure map.below.roads.used) base) (closing_layered (holds map.roads.used) slow);
+        now_fits = closing_well (holds map.roads.entries.used) slow (slowing_well (entry_for slow_road map.below.roads.entries.used) base fits);
+        layered = layered_over base slow (closing (holds map.roads.entries.used) slow) (slowing_layered (figure map.below.roads.entries.used) base) (closing_layered (holds map.roads.entries.used) slow);
         rows = λ i p. left.rows i (sym (left.prepared i) ∙ p);
         unchanged = λ empty r.
-            let both = and_parts (eqb (length map.roads.used) 0) (eqb (length map.below.roads.used) 0) empty in
-            as_below (base.road r) (holds map.roads.used r) (figure map.below.roads.used r)
-            (none_closed map.roads.used r (eqb-true (length map.roads.used) 0 both.0)) (none_slowed map.below.roads.used r (eqb-true (length map.below.roads.used) 0 both.1));
+            let both = and_parts (eqb (length map.roads.entries.used) 0) (eqb (length map.below.roads.entries.used) 0) empty in
+            as_below (base.road r) (holds map.roads.entries.used r) (figure map.below.roads.entries.used r)
+            (none_closed map.roads.entries.used r (eqb-true (length map.roads.entries.used) 0 both.0)) (none_slowed map.below.roads.entries.used r (eqb-true (length map.below.roads.entries.used) 0 both.1));
       }

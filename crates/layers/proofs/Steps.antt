@@ -68,35 +68,35 @@ module _ {E C V : Type 0} (road_of : E → ℕ) (again : Result Unit Refusal) (k
 
     -- the layer with another table
     abbrev over : (s : Kept E) → Limited e.road s → Layer G E A e p
-    over s l = record { below = before.below; roads = s; limited = l }
+    over s l = record { below = before.below; roads = record { entries = s; limited = l } }
 
     abbrev layer : Layer G E A e p
     layer = over t limited
 
     -- it is as it was where its table is
-    stays : (s : Kept E) → before.roads ≡ s → (l : Limited e.road s) → over s l ≡ before
-    stays s c = subst (λ z. (l : Limited e.road z) → over z l ≡ before) c (λ l. ap (over before.roads) (limited_prop e.road before.roads l before.limited))
+    stays : (s : Kept E) → before.roads.entries ≡ s → (l : Limited e.road s) → over s l ≡ before
+    stays s c = subst (λ z. (l : Limited e.road z) → over z l ≡ before) c (λ l. ap (over before.roads.entries) (limited_prop e.road before.roads.entries l before.roads.limited))
 
-    change_is : (P : Type 0) (a : Result Unit Refusal) → MatchResult a (λ _. P) (λ _. t ≡ before.roads) → MatchResult a (λ _. P) (λ _. ◌≡◌ {A = Layer G E A e p} layer before)
+    change_is : (P : Type 0) (a : Result Unit Refusal) → MatchResult a (λ _. P) (λ _. t ≡ before.roads.entries) → MatchResult a (λ _. P) (λ _. ◌≡◌ {A = Layer G E A e p} layer before)
     change_is P (Ok u) c = c
     change_is P (Err r) c = stays t (sym c) limited
 
-    left_by : (h : List C) (a : Result Unit Refusal) → Left road_of k h before.roads.used →
-        MatchResult a (λ _. Given road_of (k.entry_of call) (k.named call) before.roads.used t.used) (λ _. t ≡ before.roads) → Left road_of k (further h call a) t.used
-    left_by h (Ok u) was c = left_given h call before.roads.used t.used (numbered (m.road (k.named call)) refl there) was (k.entry_of call) refl c
+    left_by : (h : List C) (a : Result Unit Refusal) → Left road_of k h before.roads.entries.used →
+        MatchResult a (λ _. Given road_of (k.entry_of call) (k.named call) before.roads.entries.used t.used) (λ _. t ≡ before.roads.entries) → Left road_of k (further h call a) t.used
+    left_by h (Ok u) was c = left_given h call before.roads.entries.used t.used (numbered (m.road (k.named call)) refl there) was (k.entry_of call) refl c
     left_by h (Err r) was c = subst (λ (s : Kept E). Left road_of k h s.used) (sym c) was
 
     called : (a : Result Unit Refusal) →
-        a ≡ table_answer again (k.entry_of call) (is_some (entry_for road_of before.roads.used (k.named call))) (length before.roads.used) →
-        MatchResult a (λ _. Given road_of (k.entry_of call) (k.named call) before.roads.used t.used) (λ _. t ≡ before.roads) →
+        a ≡ table_answer again (k.entry_of call) (is_some (entry_for road_of before.roads.entries.used (k.named call))) (length before.roads.entries.used) →
+        MatchResult a (λ _. Given road_of (k.entry_of call) (k.named call) before.roads.entries.used t.used) (λ _. t ≡ before.roads.entries) →
         Called road_of again k m call before layer a
     called a e c = record {
       answer = e ∙ sym (on (m.road (k.named call)) _ there);
-      change = change_is (Given road_of (k.entry_of call) (k.named call) before.roads.used t.used) a c;
+      change = change_is (Given road_of (k.entry_of call) (k.named call) before.roads.entries.used t.used) a c;
       below = refl;
       history = λ h was. record {
         answered = e ∙ sym (on (m.road (k.named call)) _ there)
-            ∙ ap (λ b. on_road (m.road (k.named call)) (table_answer again (k.entry_of call) b (length before.roads.used))) (sym (laws.counts (entry_for road_of before.roads.used (k.named call))) ∙ ap k.counted (was.reads (k.named call)))
+            ∙ ap (λ b. on_road (m.road (k.named call)) (table_answer again (k.entry_of call) b (length before.roads.entries.used))) (sym (laws.counts (entry_for road_of before.roads.entries.used (k.named call))) ∙ ap k.counted (was.reads (k.named call)))
             ∙ ap (λ n. on_road (m.road (k.named call)) (table_answer again (k.entry_of call) (k.counted (said_by k h (k.named call))) n)) was.count;
         left = left_by h a was c;
       };
@@ -104,9 +104,9 @@ module _ {E C V : Type 0} (road_of : E → ℕ) (again : Result Unit Refusal) (k
 
     -- by what its road is to have
     pub called_for : (o : Result (Option E) Refusal) → k.entry_of call ≡ o → (a : Result Unit Refusal) →
-        a ≡ table_answer again o (is_some (entry_for road_of before.roads.used (k.named call))) (length before.roads.used) →
-        MatchResult a (λ _. Given road_of o (k.named call) before.roads.used t.used) (λ _. t ≡ before.roads) →
+        a ≡ table_answer again o (is_some (entry_for road_of before.roads.entries.used (k.named call))) (length before.roads.entries.used) →
+        MatchResult a (λ _. Given road_of o (k.named call) before.roads.entries.used t.used) (λ _. t ≡ before.roads.entries) →
         Called road_of again k m call before layer a
     called_for o is a e c =
-        called a (subst (λ z. a ≡ table_answer again z (is_some (entry_for road_of before.roads.used (k.named call))) (length before.roads.used)) (sym is) e)
-        (subst (λ z. MatchResult a (λ _. Given road_of z (k.named call) before.roads.used t.used) (λ _. t ≡ before.roads)) (sym is) c)
+        called a (subst (λ z. a ≡ table_answer again z (is_some (entry_for road_of before.roads.entries.used (k.named call))) (length before.roads.entries.used)) (sym is) e)
+        (subst (λ z. MatchResult a (λ _. Given road_of z (k.named call) before.roads.entries.used t.used) (λ _. t ≡ before.roads.entries)) (sym is) c)

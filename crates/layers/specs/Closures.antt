@@ -61,7 +61,7 @@ closures_by h = many (closed_by h) 65536
 
 -- The history leaves the layer so: just the roads that it closes have an entry, each of them one.
 abbrev pub LeftBy : {G : Type 0} → List ClosureCall → Closures G → Type 0
-LeftBy h c = Left closed_road closure_rules h c.roads.used
+LeftBy h c = Left closed_road closure_rules h c.roads.entries.used
 
 -- What a close of a road answers, from the road below, whether it has an entry and how many there are: no such road
 -- (11), already on the layer (12), 64 on it (14), in this order.
@@ -79,15 +79,15 @@ answer_by m h call = layer_answer_by (Err AlreadyClosed) closure_rules m h call
 -- A close of the road on a layer over a map that means m. An accepted one puts the road on the layer, and a refused one
 -- changes nothing at all.
 pub record Closing {G : Type 0} (m : MapModel) (road : RoadId) (before after : Closures G) (a : Result Unit Refusal) : Type 0 where
-  pub answer : a ≡ close_answer (m.road road.0) (holds before.roads.used road.0) (length before.roads.used)
-  pub change : MatchResult a (λ _. Added before.roads.used after.roads.used road.0) (λ _. after ≡ before)
+  pub answer : a ≡ close_answer (m.road road.0) (holds before.roads.entries.used road.0) (length before.roads.entries.used)
+  pub change : MatchResult a (λ _. Added before.roads.entries.used after.roads.entries.used road.0) (λ _. after ≡ before)
   pub below : after.below ≡ before.below
   pub history : (h : List ClosureCall) → LeftBy h before → ByHistory (answer_by m) LeftBy h (Close road) a after
 
 -- An open of the road on a layer over a map that means m. An accepted one takes the road off the layer, and a refused one
 -- changes nothing at all.
 pub record Opening {G : Type 0} (m : MapModel) (road : RoadId) (before after : Closures G) (a : Result Unit Refusal) : Type 0 where
-  pub answer : a ≡ open_answer (m.road road.0) (holds before.roads.used road.0)
-  pub change : MatchResult a (λ _. Removed before.roads.used after.roads.used road.0) (λ _. after ≡ before)
+  pub answer : a ≡ open_answer (m.road road.0) (holds before.roads.entries.used road.0)
+  pub change : MatchResult a (λ _. Removed before.roads.entries.used after.roads.entries.used road.0) (λ _. after ≡ before)
   pub below : after.below ≡ before.below
   pub history : (h : List ClosureCall) → LeftBy h before → ByHistory (answer_by m) LeftBy h (Open road) a after

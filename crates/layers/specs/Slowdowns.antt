@@ -68,7 +68,7 @@ figures_by h = many (λ r. is_some (figure_by h r)) 65536
 
 -- The history leaves the layer so: just the roads to which it gives a figure have an entry, each of them one, with it.
 abbrev pub LeftBy : {G : Type 0} → List SlowdownCall → Slowdowns G → Type 0
-LeftBy h c = Left slow_road slowdown_rules h c.roads.used
+LeftBy h c = Left slow_road slowdown_rules h c.roads.entries.used
 
 -- What a slow of a road to the figure f answers, from the road below, its own figure and how many there are: no such road
 -- (11), over 60,000 (15), 64 entries and none its own (14), in this order.
@@ -86,15 +86,15 @@ answer_by m h call = layer_answer_by (Ok tt) slowdown_rules m h call
 -- A slow of the road to the figure f on a layer over a map that means m. An accepted one gives the road that figure, and a
 -- refused one changes nothing at all.
 pub record Slowing {G : Type 0} (m : MapModel) (road : RoadId) (f : ℕ) (before after : Slowdowns G) (a : Result Unit Refusal) : Type 0 where
-  pub answer : a ≡ slow_answer (m.road road.0) f (figure before.roads.used road.0) (length before.roads.used)
-  pub change : MatchResult a (λ _. Slowed before.roads.used after.roads.used road.0 f) (λ _. after ≡ before)
+  pub answer : a ≡ slow_answer (m.road road.0) f (figure before.roads.entries.used road.0) (length before.roads.entries.used)
+  pub change : MatchResult a (λ _. Slowed before.roads.entries.used after.roads.entries.used road.0 f) (λ _. after ≡ before)
   pub below : after.below ≡ before.below
   pub history : (h : List SlowdownCall) → LeftBy h before → ByHistory (answer_by m) LeftBy h (Slow road f) a after
 
 -- A clear of the road on a layer over a map that means m. An accepted one takes the road's figure away, and a refused one
 -- changes nothing at all.
 pub record Clearing {G : Type 0} (m : MapModel) (road : RoadId) (before after : Slowdowns G) (a : Result Unit Refusal) : Type 0 where
-  pub answer : a ≡ clear_answer (m.road road.0) (is_some (figure before.roads.used road.0))
-  pub change : MatchResult a (λ _. Cleared before.roads.used after.roads.used road.0) (λ _. after ≡ before)
+  pub answer : a ≡ clear_answer (m.road road.0) (is_some (figure before.roads.entries.used road.0))
+  pub change : MatchResult a (λ _. Cleared before.roads.entries.used after.roads.entries.used road.0) (λ _. after ≡ before)
   pub below : after.below ≡ before.below
   pub history : (h : List SlowdownCall) → LeftBy h before → ByHistory (answer_by m) LeftBy h (Clear road) a after

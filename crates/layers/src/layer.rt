@@ -22,30 +22,39 @@ use map::roads::Road;
 #[derive(Drop)]
 pub struct Layer<G, E: Entry, A: Places<E>> {
     pub below: G,
-    roads: Entries<E, A>,
-    ghost limited: { Limited E.Entry.road roads } by { limited_prop E.Entry.road roads },
+    roads: Held<E, A>,
+}
+
+/// The entries of a layer, and what holds of every table. They stand apart from the map below: whoever changes that map has
+/// nothing to show of them.
+#[derive(Drop)]
+struct Held<E: Entry, A: Places<E>> {
+    entries: Entries<E, A>,
+    ghost limited: { Limited E.Entry.road entries } by { limited_prop E.Entry.road entries },
 }
 
 impl<G, E: Kind, A: Places<E>> Layer<G, E, A> {
     /// A layer without entries.
     pub fn new(below: G) -> Self
         ensures below { result.below ≡ below }
-        ensures history { Left E.Entry.road E.Kind.rules [] result.roads.used }
+        ensures history { Left E.Entry.road E.Kind.rules [] result.roads.entries.used }
     {
         Layer {
             below,
-            roads: no_entries(),
+            roads: Held {
+                entries: no_entries(),
+            },
         }
     }
 
     /// Whether the layer has no entry. One counts even where the road reads the same below.
     pub fn is_empty(&self) -> bool
-        ensures count { result ≡ (length self.now.roads.used == 0) }
-        ensures none { result ≡ true → (q : ℕ) → entry_for E.Entry.road self.now.roads.used q ≡ None }
-        ensures limits { Limited E.Entry.road self.now.roads }
-        ensures history { (h : List E.Call) → Left E.Entry.road E.Kind.rules h self.now.roads.used → result ≡ (count_by E.Kind.rules h == 0) }
+        ensures count { result ≡ (length self.now.roads.entries.used == 0) }
+        ensures none { result ≡ true → (q : ℕ) → entry_for E.Entry.road self.now.roads.entries.used q ≡ None }
+        ensures limits { Limited E.Entry.road self.now.roads.entries }
+        ensures history { (h : List E.Call) → Left E.Entry.road E.Kind.rules h self.now.roads.entries.used → result ≡ (count_by E.Kind.rules h == 0) }
     {
-        self.roads.is_empty()
+        self.roads.entries.is_empty()
     }
 }
 
@@ -65,7 +74,7 @@ impl<G: Map, E: Kind, A: Places<E>> Layer<G, E, A> {
     /// Performs the calls in turn on a new layer over the map, whether they are accepted or refused.
     pub fn run(below: G, calls: &[E::Call]) -> Self
         ensures below { result.below ≡ below }
-        ensures history { Left E.Entry.road E.Kind.rules (history_of (answer_by E.Entry.again E.Kind.rules (G.Map.model below)) [] calls.now) result.roads.used }
+        ensures history { Left E.Entry.road E.Kind.rules (history_of (answer_by E.Entry.again E.Kind.rules (G.Map.model below)) [] calls.now) result.roads.entries.used }
     {
         let mut layer = Layer::new(below);
         layer.perform(calls);
@@ -78,15 +87,15 @@ impl<G: Map, E: Kind, A: Places<E>> Layer<G, E, A> {
         ensures { Called E.Entry.road E.Entry.again E.Kind.rules (G.Map.model self.old.below) call self.old self.new result }
     {
         match E::entry(call)? {
-            Some(entry) => self.roads.put(entry),
-            None => self.roads.remove(E::road_named(call)),
+            Some(entry) => self.roads.entries.put(entry),
+            None => self.roads.entries.remove(E::road_named(call)),
         }
     }
 
     /// Performs the calls in turn.
     fn perform(&mut self, calls: &[E::Call])
         ensures below { self.new.below ≡ self.old.below }
-        ensures history { (h : List E.Call) → Left E.Entry.road E.Kind.rules h self.old.roads.used → Left E.Entry.road E.Kind.rules (history_of (answer_by E.Entry.again E.Kind.rules (G.Map.model self.old.below)) h calls.now) self.new.roads.used }
+        ensures history { (h : List E.Call) → Left E.Entry.road E.Kind.rules h self.old.roads.entries.used → Left E.Entry.road E.Kind.rules (history_of (answer_by E.Entry.again E.Kind.rules (G.Map.model self.old.below)) h calls.now) self.new.roads.entries.used }
     {
         for call in calls {
             let _ = self.call(*call);
@@ -103,9 +112,9 @@ fn no_entries<E: Kind, A: Places<E>>() -> Entries<E, A>
 }
 
 impl<G: Map, E: Kind, A: Places<E>> Map for Layer<G, E, A> {
-    ghost model = { λ c. through (λ r. E.Kind.rules.reads (E.Kind.rules.shows (entry_for E.Entry.road c.roads.used r))) (G.Map.model c.below) };
+    ghost model = { λ c. through (λ r. E.Kind.rules.reads (E.Kind.rules.shows (entry_for E.Entry.road c.roads.entries.used r))) (G.Map.model c.below) };
 
-    ghost sound = { λ c. E.Kind.well (entry_for E.Entry.road c.roads.used) (G.Map.model c.below) (G.Map.sound c.below) };
+    ghost sound = { λ c. E.Kind.well (entry_for E.Entry.road c.roads.entries.used) (G.Map.model c.below) (G.Map.sound c.below) };
 
     fn places(&self) -> usize {
         self.below.places()
@@ -124,11 +133,11 @@ impl<G: Map, E: Kind, A: Places<E>> Map for Layer<G, E, A> {
     }
 
     fn road(&self, number: RoadId) -> Option<Road>
-        ensures read { result ≡ option_map (E.Kind.rules.reads (E.Kind.rules.shows (entry_for E.Entry.road self.now.roads.used number.0))) ((G.Map.model self.now.below).road number.0) }
-        ensures history { (h : List E.Call) → Left E.Entry.road E.Kind.rules h self.now.roads.used → result ≡ option_map (E.Kind.rules.reads (said_by E.Kind.rules h number.0)) ((G.Map.model self.now.below).road number.0) }
+        ensures read { result ≡ option_map (E.Kind.rules.reads (E.Kind.rules.shows (entry_for E.Entry.road self.now.roads.entries.used number.0))) ((G.Map.model self.now.below).road number.0) }
+        ensures history { (h : List E.Call) → Left E.Entry.road E.Kind.rules h self.now.roads.entries.used → result ≡ option_map (E.Kind.rules.reads (said_by E.Kind.rules h number.0)) ((G.Map.model self.now.below).road number.0) }
     {
         let road = self.below.road(number)?;
-        Some(E::read(self.roads.get(number), road))
+        Some(E::read(self.roads.entries.get(number), road))
     }
 
     fn departure(&self, place: Place, j: usize) -> Option<RoadId> {

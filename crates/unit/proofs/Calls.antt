@@ -1,12 +1,10 @@
 -- What the calls on the layers make of the unit.
-use Rattle.std.proofs.Common.{◌≡◌, ℕ, Bool, length, Ok, Err, Result, refl, ap, ◌∙◌}
+use Rattle.std.proofs.Common.{ℕ, Bool, length, Ok, Err, Result, refl, ap, ◌∙◌}
 use Rattle.map.specs.declared.numbers.RoadId.{RoadId}
 use Rattle.map.specs.Model.{MapModel}
 use Rattle.entries.specs.declared.refusals.Refusal.{Refusal as LayerRefusal}
-use Rattle.entries.specs.Entries.{closed_road, Limited}
 use Rattle.entries.specs.Readings.{slowed, slowing}
 use Rattle.entries.specs.Tables.{holds, figure}
-use Rattle.entries.proofs.Limits.{limited_prop}
 use Rattle.layers.specs.Closures.{Closures, Closing as LayerClosing, Opening as LayerOpening}
 use Rattle.layers.specs.Slowdowns.{Slowdowns, Slowing as LayerSlowing, Clearing as LayerClearing}
 use Rattle.histories.specs.Histories.{lifted}
@@ -20,84 +18,78 @@ module _ {K T M G : Type 0} (thing : K → T) (leq : T → T → Bool) (plus : K
   abbrev over : Closures (Slowdowns G) → MapUnit M G
   over m = record { map = m; table = before.table; measure = before.measure }
 
-  -- the unit with another layer of slowdowns, below the closures that are limited by l
-  module _ (l : Limited closed_road before.map.roads) where
-    abbrev above : Slowdowns G → MapUnit M G
-    above s = over (record { below = s; roads = before.map.roads; limited = l })
+  -- the unit with another layer of slowdowns
+  abbrev above : Slowdowns G → MapUnit M G
+  above s = over (record { below = s; roads = before.map.roads })
 
-    -- it is as it was where that layer is
-    stays : (s : Slowdowns G) → s ≡ before.map.below → above s ≡ before
-    stays s e = ap above e
-        ∙ ap (λ z. over (record { below = before.map.below; roads = before.map.roads; limited = z })) (limited_prop closed_road before.map.roads l before.map.limited)
-
-  pub closing : (m : Closures (Slowdowns G)) (a : Result Unit LayerRefusal) → LayerClosing (slowing (figure before.map.below.roads.used) base) road before.map m a →
+  pub closing : (m : Closures (Slowdowns G)) (a : Result Unit LayerRefusal) → LayerClosing (slowing (figure before.map.below.roads.entries.used) base) road before.map m a →
       Closing thing leq plus nil blocked price decoded base road before (over m) (lifted a)
   closing m (Ok u) c = record {
-    answer = ap lifted (c.answer ∙ close_through (slowed (figure before.map.below.roads.used road.0)) (base.road road.0) (holds before.map.roads.used road.0) (length before.map.roads.used));
+    answer = ap lifted (c.answer ∙ close_through (slowed (figure before.map.below.roads.entries.used road.0)) (base.road road.0) (holds before.map.roads.entries.used road.0) (length before.map.roads.entries.used));
     change = c.change;
     below = c.below;
     table = refl;
     history = λ h was. left_close thing leq plus nil blocked price decoded base h before.table road before.map m was (Ok u) c;
   }
   closing m (Err e) c = record {
-    answer = ap lifted (c.answer ∙ close_through (slowed (figure before.map.below.roads.used road.0)) (base.road road.0) (holds before.map.roads.used road.0) (length before.map.roads.used));
+    answer = ap lifted (c.answer ∙ close_through (slowed (figure before.map.below.roads.entries.used road.0)) (base.road road.0) (holds before.map.roads.entries.used road.0) (length before.map.roads.entries.used));
     change = ap over c.change;
     below = c.below;
     table = refl;
     history = λ h was. left_close thing leq plus nil blocked price decoded base h before.table road before.map m was (Err e) c;
   }
 
-  pub opening : (m : Closures (Slowdowns G)) (a : Result Unit LayerRefusal) → LayerOpening (slowing (figure before.map.below.roads.used) base) road before.map m a →
+  pub opening : (m : Closures (Slowdowns G)) (a : Result Unit LayerRefusal) → LayerOpening (slowing (figure before.map.below.roads.entries.used) base) road before.map m a →
       Opening thing leq plus nil blocked price decoded base road before (over m) (lifted a)
   opening m (Ok u) c = record {
-    answer = ap lifted (c.answer ∙ open_through (slowed (figure before.map.below.roads.used road.0)) (base.road road.0) (holds before.map.roads.used road.0));
+    answer = ap lifted (c.answer ∙ open_through (slowed (figure before.map.below.roads.entries.used road.0)) (base.road road.0) (holds before.map.roads.entries.used road.0));
     change = c.change;
     below = c.below;
     table = refl;
     history = λ h was. left_open thing leq plus nil blocked price decoded base h before.table road before.map m was (Ok u) c;
   }
   opening m (Err e) c = record {
-    answer = ap lifted (c.answer ∙ open_through (slowed (figure before.map.below.roads.used road.0)) (base.road road.0) (holds before.map.roads.used road.0));
+    answer = ap lifted (c.answer ∙ open_through (slowed (figure before.map.below.roads.entries.used road.0)) (base.road road.0) (holds before.map.roads.entries.used road.0));
     change = ap over c.change;
     below = c.below;
     table = refl;
     history = λ h was. left_open thing leq plus nil blocked price decoded base h before.table road before.map m was (Err e) c;
   }
 
-  pub slowing_to : (l : Limited closed_road before.map.roads) (f : ℕ) (s : Slowdowns G) (a : Result Unit LayerRefusal) → LayerSlowing base road f before.map.below s a →
-      Slowing thing leq plus nil blocked price decoded base road f before (above l s) (lifted a)
-  slowing_to l f s (Ok u) c = record {
+  pub slowing_to : (f : ℕ) (s : Slowdowns G) (a : Result Unit LayerRefusal) → LayerSlowing base road f before.map.below s a →
+      Slowing thing leq plus nil blocked price decoded base road f before (above s) (lifted a)
+  slowing_to f s (Ok u) c = record {
     answer = ap lifted c.answer;
     change = c.change;
     closures = refl;
     below = c.below;
     table = refl;
-    history = λ h was. left_slow thing leq plus nil blocked price decoded base h before.table road before.map (above l s).map was f (Ok u) refl c;
+    history = λ h was. left_slow thing leq plus nil blocked price decoded base h before.table road before.map (above s).map was f (Ok u) refl c;
   }
-  slowing_to l f s (Err e) c = record {
+  slowing_to f s (Err e) c = record {
     answer = ap lifted c.answer;
-    change = stays l s c.change;
+    change = ap above c.change;
     closures = refl;
     below = c.below;
     table = refl;
-    history = λ h was. left_slow thing leq plus nil blocked price decoded base h before.table road before.map (above l s).map was f (Err e) refl c;
+    history = λ h was. left_slow thing leq plus nil blocked price decoded base h before.table road before.map (above s).map was f (Err e) refl c;
   }
 
-  pub clearing : (l : Limited closed_road before.map.roads) (s : Slowdowns G) (a : Result Unit LayerRefusal) → LayerClearing base road before.map.below s a →
-      Clearing thing leq plus nil blocked price decoded base road before (above l s) (lifted a)
-  clearing l s (Ok u) c = record {
+  pub clearing : (s : Slowdowns G) (a : Result Unit LayerRefusal) → LayerClearing base road before.map.below s a →
+      Clearing thing leq plus nil blocked price decoded base road before (above s) (lifted a)
+  clearing s (Ok u) c = record {
     answer = ap lifted c.answer;
     change = c.change;
     closures = refl;
     below = c.below;
     table = refl;
-    history = λ h was. left_clear thing leq plus nil blocked price decoded base h before.table road before.map (above l s).map was (Ok u) refl c;
+    history = λ h was. left_clear thing leq plus nil blocked price decoded base h before.table road before.map (above s).map was (Ok u) refl c;
   }
-  clearing l s (Err e) c = record {
+  clearing s (Err e) c = record {
     answer = ap lifted c.answer;
-    change = stays l s c.change;
+    change = ap above c.change;
     closures = refl;
     below = c.below;
     table = refl;
-    history = λ h was. left_clear thing leq plus nil blocked price decoded base h before.table road before.map (above l s).map was (Err e) refl c;
+    history = λ h was. left_clear thing leq plus nil blocked price decoded base h before.table road before.map (above s).map was (Err e) refl c;
   }

@@ -18,8 +18,8 @@ module _ {K T : Type 0} (thing : K → T) (leq : T → T → Bool) (plus : K →
   -- A close of the road. An accepted one puts the road on the layer of closures and changes nothing else, and a refused
   -- one changes nothing at all.
   pub record Closing {M G : Type 0} (road : RoadId) (before after : MapUnit M G) (a : Result Unit Refusal) : Type 0 where
-    pub answer : a ≡ lifted (close_answer (base.road road.0) (holds before.map.roads.used road.0) (length before.map.roads.used))
-    pub change : MatchResult a (λ _. Added before.map.roads.used after.map.roads.used road.0) (λ _. after ≡ before)
+    pub answer : a ≡ lifted (close_answer (base.road road.0) (holds before.map.roads.entries.used road.0) (length before.map.roads.entries.used))
+    pub change : MatchResult a (λ _. Added before.map.roads.entries.used after.map.roads.entries.used road.0) (λ _. after ≡ before)
     pub below : after.map.below ≡ before.map.below
     pub table : after.table ≡ before.table
     pub history : (h : List Call) → LeftBy thing leq plus nil blocked price decoded base h before.map before.table →
@@ -28,8 +28,8 @@ module _ {K T : Type 0} (thing : K → T) (leq : T → T → Bool) (plus : K →
   -- An open of the road. An accepted one takes the road off the layer of closures and changes nothing else, and a refused
   -- one changes nothing at all.
   pub record Opening {M G : Type 0} (road : RoadId) (before after : MapUnit M G) (a : Result Unit Refusal) : Type 0 where
-    pub answer : a ≡ lifted (open_answer (base.road road.0) (holds before.map.roads.used road.0))
-    pub change : MatchResult a (λ _. Removed before.map.roads.used after.map.roads.used road.0) (λ _. after ≡ before)
+    pub answer : a ≡ lifted (open_answer (base.road road.0) (holds before.map.roads.entries.used road.0))
+    pub change : MatchResult a (λ _. Removed before.map.roads.entries.used after.map.roads.entries.used road.0) (λ _. after ≡ before)
     pub below : after.map.below ≡ before.map.below
     pub table : after.table ≡ before.table
     pub history : (h : List Call) → LeftBy thing leq plus nil blocked price decoded base h before.map before.table →
@@ -38,8 +38,8 @@ module _ {K T : Type 0} (thing : K → T) (leq : T → T → Bool) (plus : K →
   -- A slow of the road to the figure f. An accepted one gives the road that figure on the layer of slowdowns and changes
   -- nothing else, and a refused one changes nothing at all.
   pub record Slowing {M G : Type 0} (road : RoadId) (f : ℕ) (before after : MapUnit M G) (a : Result Unit Refusal) : Type 0 where
-    pub answer : a ≡ lifted (slow_answer (base.road road.0) f (figure before.map.below.roads.used road.0) (length before.map.below.roads.used))
-    pub change : MatchResult a (λ _. Slowed before.map.below.roads.used after.map.below.roads.used road.0 f) (λ _. after ≡ before)
+    pub answer : a ≡ lifted (slow_answer (base.road road.0) f (figure before.map.below.roads.entries.used road.0) (length before.map.below.roads.entries.used))
+    pub change : MatchResult a (λ _. Slowed before.map.below.roads.entries.used after.map.below.roads.entries.used road.0 f) (λ _. after ≡ before)
     pub closures : after.map.roads ≡ before.map.roads
     pub below : after.map.below.below ≡ before.map.below.below
     pub table : after.table ≡ before.table
@@ -49,8 +49,8 @@ module _ {K T : Type 0} (thing : K → T) (leq : T → T → Bool) (plus : K →
   -- A clear of the road. An accepted one takes the road's figure off the layer of slowdowns and changes nothing else, and
   -- a refused one changes nothing at all.
   pub record Clearing {M G : Type 0} (road : RoadId) (before after : MapUnit M G) (a : Result Unit Refusal) : Type 0 where
-    pub answer : a ≡ lifted (clear_answer (base.road road.0) (is_some (figure before.map.below.roads.used road.0)))
-    pub change : MatchResult a (λ _. Cleared before.map.below.roads.used after.map.below.roads.used road.0) (λ _. after ≡ before)
+    pub answer : a ≡ lifted (clear_answer (base.road road.0) (is_some (figure before.map.below.roads.entries.used road.0)))
+    pub change : MatchResult a (λ _. Cleared before.map.below.roads.entries.used after.map.below.roads.entries.used road.0) (λ _. after ≡ before)
     pub closures : after.map.roads ≡ before.map.roads
     pub below : after.map.below.below ≡ before.map.below.below
     pub table : after.table ≡ before.table

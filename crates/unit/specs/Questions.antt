@@ -18,11 +18,11 @@ use Rattle.unit.specs.Preparing.{wiped}
 
 -- The map as it reads now, over a base map that means `base`: through the slowdowns, and then through the closures.
 abbrev pub map_now : {M G : Type 0} → MapModel → MapUnit M G → MapModel
-map_now base u = closing (holds u.map.roads.used) (slowing (figure u.map.below.roads.used) base)
+map_now base u = closing (holds u.map.roads.entries.used) (slowing (figure u.map.below.roads.entries.used) base)
 
 -- Neither layer has an entry.
 abbrev pub no_entry_now : {M G : Type 0} → MapUnit M G → Bool
-no_entry_now u = length u.map.roads.used == 0 && length u.map.below.roads.used == 0
+no_entry_now u = length u.map.roads.entries.used == 0 && length u.map.below.roads.entries.used == 0
 
 -- The memory that a question is lent: two rows of labels, two fringes and a list.
 pub record Lent (K F N : Type 0) : Type 0 where

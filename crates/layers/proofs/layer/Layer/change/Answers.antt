@@ -12,7 +12,7 @@ returns-in-Some g c =
     let own = g.met.E.Kind.laws.own_road c.args.call c.in-Some.entry is in
     called_for road g.E.Entry.again g.E.Kind.rules g.met.E.Kind.laws (g.G.Map.model self.below) (g.G.Map.sound self.below) c.args.call c.requires self c.put.new.self _
     (Ok (Some c.in-Some.entry)) is c.put.result
-    (c.put.ensures.answer ∙ ap (λ r. put_answer g.E.Entry.again (is_some (entry_for road self.roads.used r)) (length self.roads.used)) own) c.put.ensures.after
+    (c.put.ensures.answer ∙ ap (λ r. put_answer g.E.Entry.again (is_some (entry_for road self.roads.entries.used r)) (length self.roads.entries.used)) own) c.put.ensures.after
 
 pub returns-in-None : goal.returns-in-None
 returns-in-None g c =
@@ -22,5 +22,5 @@ returns-in-None g c =
     let named = c.road_named.ensures in
     called_for road g.E.Entry.again g.E.Kind.rules g.met.E.Kind.laws (g.G.Map.model self.below) (g.G.Map.sound self.below) c.args.call c.requires self c.remove.new.self _
     (Ok None) is c.remove.result
-    (c.remove.ensures.answer ∙ ap (λ r. remove_answer (is_some (entry_for road self.roads.used r))) named)
-    (subst (λ r. MatchResult c.remove.result (λ _. Lost road self.roads.used c.remove.new.self.used r) (λ _. c.remove.new.self ≡ self.roads)) named c.remove.ensures.after)
+    (c.remove.ensures.answer ∙ ap (λ r. remove_answer (is_some (entry_for road self.roads.entries.used r))) named)
+    (subst (λ r. MatchResult c.remove.result (λ _. Lost road self.roads.entries.used c.remove.new.self.used r) (λ _. c.remove.new.self ≡ self.roads.entries)) named c.remove.ensures.after)
