@@ -64,23 +64,12 @@ fn agree<C: Order + Copy>(a: Option<(Place, C)>, b: Option<(Place, C)>) -> bool 
     }
 }
 
-/// The lesser of the best so far and what a later place holds, and of equals the best so far.
-fn lesser<C: Order + Copy>(best: Option<(Place, C)>, next: (Place, C)) -> (Place, C) {
-    match best {
-        Some(best) if !next.1.less(&best.1) => best,
-        _ => next,
-    }
-}
-
 /// The least of a row, and of equals the lowest place, by looking at every place.
 fn scan<C: Order + Copy>(row: &[Option<C>]) -> Option<(Place, C)> {
-    let mut best = None;
-    for p in 0..PLACES {
-        if let Some(&Some(cost)) = row.get(p) {
-            best = Some(lesser(best, (Place(p as u16), cost)));
-        }
-    }
-    best
+    (0..PLACES as u16)
+        .zip(row)
+        .filter_map(|(p, cost)| Some((Place(p), (*cost)?)))
+        .reduce(|best, next| if next.1.less(&best.1) { next } else { best })
 }
 
 /// Enters a place of a row, or lowers its cost.
