@@ -1,4 +1,4 @@
 pub mod Changes
-pub mod Limits
+pub mod Holding
 pub mod Lists
 pub mod Readings

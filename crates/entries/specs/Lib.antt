@@ -1,5 +1,6 @@
 pub mod Answers
 pub mod Entries
+pub mod Limits
 pub mod Readings
 pub mod Refusals
 pub mod Slowdowns

@@ -30,17 +30,15 @@ impl Entry for RoadId {
 impl ClosedRoads {
     /// Whether a road is on the table.
     pub fn holds(&self, road: RoadId) -> bool
-        ensures holds { result ≡ holds self.now.used road.0 }
-        ensures limits { Limited closed_road self.now }
+        ensures holds { result ≡ holds self.now.entries.used road.0 }
     {
         self.get(road).is_some()
     }
 
     /// Puts a road on the table.
     pub fn add(&mut self, road: RoadId) -> Result<(), Refusal>
-        ensures answer { result ≡ add_answer (holds self.old.used road.0) (length self.old.used) }
-        ensures after { MatchResult result (λ _. Added self.old.used self.new.used road.0) (λ _. self.new ≡ self.old) }
-        ensures limits { Limited closed_road self.new }
+        ensures answer { result ≡ add_answer (holds self.old.entries.used road.0) (length self.old.entries.used) }
+        ensures after { MatchResult result (λ _. Added self.old.entries.used self.new.entries.used road.0) (λ _. self.new ≡ self.old) }
     {
         self.put(road)
     }

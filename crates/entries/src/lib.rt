@@ -3,12 +3,14 @@
 
 pub mod closed;
 pub mod entry;
+pub mod held;
 pub mod refusals;
 pub mod slowdown;
 pub mod slowed;
 pub mod tables;
 
 pub use entry::{Entry, Places};
+pub use held::Held;
 pub use refusals::Refusal;
 pub use slowdown::{Figure, Slowdown};
 pub use tables::{ClosedRoads, Entries, SlowedRoads};

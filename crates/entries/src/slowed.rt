@@ -35,20 +35,16 @@ impl Entry for Figure {
 impl SlowedRoads {
     /// The figure of a road.
     pub fn figure(&self, road: RoadId) -> Option<u16>
-        ensures figure { result ≡ figure self.now.used road.0 }
-        ensures limits { Limited slow_road self.now }
+        ensures figure { result ≡ figure self.now.entries.used road.0 }
     {
         Some(self.get(road)?.seconds)
     }
 
     /// Gives a road a figure, in place of the one that it may have.
     pub fn set(&mut self, road: RoadId, seconds: u16) -> Result<(), Refusal>
-        ensures answer { result ≡ set_answer seconds (figure self.old.used road.0) (length self.old.used) }
-        ensures after { MatchResult result (λ _. Slowed self.old.used self.new.used road.0 seconds) (λ _. self.new ≡ self.old) }
-        ensures limits { Limited slow_road self.new }
+        ensures answer { result ≡ set_answer seconds (figure self.old.entries.used road.0) (length self.old.entries.used) }
+        ensures after { MatchResult result (λ _. Slowed self.old.entries.used self.new.entries.used road.0 seconds) (λ _. self.new ≡ self.old) }
     {
-        // A read of a field, which tells the proof the limits where the figure is too long too.
-        let _ = &self.len;
         self.put(Figure::new(Slowdown { road, seconds })?)
     }
 }

@@ -4,6 +4,7 @@ ghost use Rattle.entries.specs.Entries.{entry_for, Found, Limited, Put, Lost};
 ghost use Rattle.entries.specs.Answers.{put_answer, remove_answer};
 
 use crate::entry::{Entry, Places};
+use crate::held::Held;
 use crate::refusals::Refusal;
 use crate::slowdown::Figure;
 pub use crate::slowdown::LONGEST;
@@ -25,10 +26,10 @@ pub struct Entries<E: Entry, A: Places<E>> {
 }
 
 /// Up to 64 different roads.
-pub type ClosedRoads = Entries<RoadId, [RoadId; ROOM]>;
+pub type ClosedRoads = Held<RoadId, [RoadId; ROOM]>;
 
 /// Up to 64 different roads with a figure of at most 60,000 seconds each.
-pub type SlowedRoads = Entries<Figure, [Figure; ROOM]>;
+pub type SlowedRoads = Held<Figure, [Figure; ROOM]>;
 
 impl<E: Entry, A: Places<E>> Model for Entries<E, A> {
     ghost use Rattle.entries.specs.Entries.{Kept, kept, Tidy};

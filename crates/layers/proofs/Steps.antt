@@ -7,7 +7,7 @@ use Rattle.entries.specs.declared.entry.Entry.{Ghosts as EntryOf}
 use Rattle.entries.specs.declared.entry.Places.{Ghosts as PlacesOf}
 use Rattle.entries.specs.declared.refusals.Refusal.{Refusal}
 use Rattle.entries.specs.Entries.{Kept, entry_for, Limited}
-use Rattle.entries.proofs.Limits.{limited_prop}
+use Rattle.entries.specs.Limits.{limited_prop}
 use Rattle.layers.specs.declared.layer.Layer.{Layer}
 use Rattle.layers.specs.Histories.{last_on, further}
 use Rattle.layers.specs.Calls.{Called}

@@ -3,12 +3,12 @@ ghost use Rattle.std.specs.Prelude.{◌≡◌, ℕ, true, List, [], length, is_s
 ghost use Rattle.std.specs.Option.{option_map};
 ghost use Rattle.map.specs.Through.{through};
 ghost use Rattle.entries.specs.Entries.{entry_for, Limited};
-ghost use Rattle.entries.proofs.Limits.{limited_prop};
 ghost use Rattle.layers.specs.Histories.{history_of};
 ghost use Rattle.layers.specs.Layers.{Left, count_by, said_by, answer_by};
 
 use crate::kinds::Kind;
 use entries::entry::{Entry, Places};
+use entries::held::Held;
 use entries::refusals::Refusal;
 use entries::tables::Entries;
 use fringe::place::Place;
@@ -23,14 +23,6 @@ use map::roads::Road;
 pub struct Layer<G, E: Entry, A: Places<E>> {
     pub below: G,
     roads: Held<E, A>,
-}
-
-/// The entries of a layer, and what holds of every table. They stand apart from the map below: whoever changes that map has
-/// nothing to show of them.
-#[derive(Drop)]
-struct Held<E: Entry, A: Places<E>> {
-    entries: Entries<E, A>,
-    ghost limited: { Limited E.Entry.road entries } by { limited_prop E.Entry.road entries },
 }
 
 impl<G, E: Kind, A: Places<E>> Layer<G, E, A> {
