@@ -45,12 +45,20 @@ pub trait Places<E: Entry>: Copy {
     fn place(&mut self, i: usize, entry: E)
         ensures { items self.new ≡ slice_set (items self.old) i entry };
 
-    /// Has the entry in a place renewed by another for the same road. Where there is not that place, there is no entry, and
-    /// nothing changes.
+    /// Has the entry in a place renewed by another for the same road, if there is that place.
     fn renew(&mut self, i: usize, entry: E) -> Result<(), Refusal>
         ensures answer { i < length (items self.old) → result ≡ E.Entry.again }
+        ensures after { (d : E) → i < length (items self.old) → E.Entry.road (slice_index_or (items self.old) i d) ≡ E.Entry.road entry → MatchResult result (λ _. items self.new ≡ slice_set (items self.old) i entry) (λ _. items self.new ≡ items self.old) };
+
+    /// The same, of which more is known: where there is not that place, there is no entry, and nothing changes.
+    final fn checked_renew(&mut self, i: usize, entry: E) -> Result<(), Refusal>
+        ensures answer { i < length (items self.old) → result ≡ E.Entry.again }
         ensures after { (d : E) → i < length (items self.old) → E.Entry.road (slice_index_or (items self.old) i d) ≡ E.Entry.road entry → MatchResult result (λ _. items self.new ≡ slice_set (items self.old) i entry) (λ _. items self.new ≡ items self.old) }
-        ensures nowhere { length (items self.old) ≤ i → (result ≡ Err NoEntry) × (items self.new ≡ items self.old) };
+        ensures nowhere { length (items self.old) ≤ i → (result ≡ Err NoEntry) × (items self.new ≡ items self.old) }
+    {
+        self.as_slice().get(i).ok_or(Refusal::NoEntry)?;
+        self.renew(i, entry)
+    }
 }
 
 impl<E: Entry> Places<E> for [E; ROOM] {
@@ -70,7 +78,11 @@ impl<E: Entry> Places<E> for [E; ROOM] {
         }
     }
 
-    fn renew(&mut self, i: usize, entry: E) -> Result<(), Refusal> {
+    fn renew(&mut self, i: usize, entry: E) -> Result<(), Refusal>
+        ensures answer { i < length self.old → result ≡ E.Entry.again }
+        ensures after { (d : E) → i < length self.old → E.Entry.road (slice_index_or self.old i d) ≡ E.Entry.road entry → MatchResult result (λ _. self.new ≡ slice_set self.old i entry) (λ _. self.new ≡ self.old) }
+        ensures nowhere { length self.old ≤ i → (result ≡ Err NoEntry) × (self.new ≡ self.old) }
+    {
         if i < ROOM {
             self[i].renew(entry)
         } else {

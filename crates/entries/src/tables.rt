@@ -135,7 +135,7 @@ impl<E: Entry, A: Places<E>> Entries<E, A> {
         ensures after { MatchResult result (λ _. Put E.Entry.road self.old.used self.new.used entry) (λ _. self.new ≡ self.old) }
         ensures limits { Limited E.Entry.road self.new }
     {
-        self.places.renew(i, entry)
+        self.places.checked_renew(i, entry)
     }
 
     /// Frees an entry: the last one moves into it.

@@ -4,6 +4,7 @@
 #[cfg(test)]
 mod tests {
     use cartridge::Cartridge;
+    use entries::{Figure, Places};
     use grid::Grid;
     use layers::{Closures, Refusal, Slowdowns};
     use map::{Map, Mark, RoadId};
@@ -91,6 +92,72 @@ mod tests {
         assert_eq!(rt; number(layer.clear(RoadId(2))), Some(13));
         assert!(rt; layer.is_empty());
         Ok(())
+    }
+
+    // Figures of road 5.
+    const THREE: Figure = Figure {
+        road: RoadId(5),
+        seconds: 3,
+    };
+
+    const NINE: Figure = Figure {
+        road: RoadId(5),
+        seconds: 9,
+    };
+
+    // Places of a caller: whoever renews one that they do not have hears of no refusal.
+    #[derive(Clone, Copy)]
+    struct Shelf {
+        figures: [Figure; 64],
+    }
+
+    impl Places<Figure> for Shelf {
+        ghost items = { λ shelf. shelf.figures };
+
+        fn blank() -> Self {
+            Shelf {
+                figures: [THREE; 64],
+            }
+        }
+
+        fn as_slice(&self) -> &[Figure] {
+            &self.figures[..]
+        }
+
+        fn place(&mut self, i: usize, entry: Figure) {
+            if i < 64 {
+                self.figures[i] = entry;
+            }
+        }
+
+        fn renew(&mut self, i: usize, entry: Figure) -> Result<(), Refusal> {
+            if i < 64 {
+                self.figures[i] = entry;
+            }
+            Ok(())
+        }
+    }
+
+    #[test]
+    fn a_place_is_renewed(rt: HostRuntime) {
+        let mut places = [THREE; 64];
+        assert_eq!(rt; number(places.renew(63, NINE)), None);
+        assert_eq!(rt; (places[62].seconds, places[63].seconds), (3, 9));
+        assert_eq!(rt; number(places.checked_renew(62, NINE)), None);
+        assert_eq!(rt; (places[61].seconds, places[62].seconds), (3, 9));
+    }
+
+    #[test]
+    fn a_place_that_is_not_there(rt: HostRuntime) {
+        let mut places = [THREE; 64];
+        assert_eq!(rt; number(places.checked_renew(64, NINE)), Some(13));
+        assert!(rt; places.iter().all(|own| own.seconds == 3));
+        let mut shelf = Shelf {
+            figures: [THREE; 64],
+        };
+        assert_eq!(rt; number(shelf.renew(64, NINE)), None);
+        assert_eq!(rt; number(shelf.checked_renew(64, NINE)), Some(13));
+        assert!(rt; shelf.figures.iter().all(|own| own.seconds == 3));
     }
 
     #[test]
