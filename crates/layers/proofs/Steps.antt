@@ -9,11 +9,17 @@ use Rattle.entries.specs.declared.refusals.Refusal.{Refusal}
 use Rattle.entries.specs.Entries.{Kept, entry_for, Limited}
 use Rattle.entries.specs.Limits.{limited_prop}
 use Rattle.layers.specs.declared.layer.Layer.{Layer}
-use Rattle.layers.specs.Histories.{last_on, further}
+use Rattle.layers.specs.Histories.{last_on, further, ByHistory}
 use Rattle.layers.specs.Calls.{Called}
-use Rattle.layers.specs.Layers.{on_road, table_answer, Given, said_by, Left}
+use Rattle.layers.specs.Layers.{on_road, table_answer, Given, said_by, Left, answer_by}
 use Rattle.layers.specs.Rules.{Rules, RuleLaws}
 use Rattle.layers.proofs.Counting.{many_step}
+
+-- What a call on a layer answers and makes of its entries, said of entries alone, limited or not.
+pub record CalledOn {E C V : Type 0} (road_of : E → ℕ) (again : Result Unit Refusal) (k : Rules E C V) (m : MapModel) (call : C) (before after : List E) (a : Result Unit Refusal) : Type 0 where
+  pub answer : a ≡ on_road (m.road (k.named call)) (table_answer again (k.entry_of call) (is_some (entry_for road_of before (k.named call))) (length before))
+  pub change : MatchResult a (λ _. Given road_of (k.entry_of call) (k.named call) before after) (λ _. after ≡ before)
+  pub history : (h : List C) → Left road_of k h before → ByHistory (answer_by again k m) (Left road_of k) h call a after
 
 module _ {E C V : Type 0} (road_of : E → ℕ) (again : Result Unit Refusal) (k : Rules E C V) (laws : RuleLaws road_of k) where
   -- what one call more says
@@ -56,7 +62,7 @@ module _ {E C V : Type 0} (road_of : E → ℕ) (again : Result Unit Refusal) (k
         (counted (is_some (entry_for road_of before (k.named call))) (length after) (length before) (g.count ∙ ap (λ r. length before + cond (is_some (entry_for road_of before r)) 0 1) own))
 
   -- ---- a call on a road that the map below has
-  module _ {G A : Type 0} {e : EntryOf E} {p : PlacesOf A E} (m : MapModel) (w : WellFormed m) (call : C) (there : is_some (m.road (k.named call)) ≡ true) (before : Layer G E A e p) (t : Kept E) (limited : Limited e.road t) where
+  module _ (m : MapModel) (w : WellFormed m) (call : C) (there : is_some (m.road (k.named call)) ≡ true) where
     on : (o : Option Road) (a : Result Unit Refusal) → is_some o ≡ true → on_road o a ≡ a
     on (Some x) a e = refl
     on None a e = absurd (false≢true e)
@@ -66,47 +72,76 @@ module _ {E C V : Type 0} (road_of : E → ℕ) (again : Result Unit Refusal) (k
     numbered (Some x) is e = omega (arith, (w.road_fits (k.named call) x is).numbered, w.few_roads)
     numbered None is e = absurd (false≢true e)
 
-    -- the layer with another table
-    abbrev over : (s : Kept E) → Limited e.road s → Layer G E A e p
-    over s l = record { below = before.below; roads = record { entries = s; limited = l } }
+    -- on entries, limited or not
+    module _ (before after : List E) where
+      left_by : (h : List C) (a : Result Unit Refusal) → Left road_of k h before →
+          MatchResult a (λ _. Given road_of (k.entry_of call) (k.named call) before after) (λ _. after ≡ before) → Left road_of k (further h call a) after
+      left_by h (Ok u) was c = left_given h call before after (numbered (m.road (k.named call)) refl there) was (k.entry_of call) refl c
+      left_by h (Err r) was c = subst (Left road_of k h) (sym c) was
 
-    abbrev layer : Layer G E A e p
-    layer = over t limited
+      entered : (a : Result Unit Refusal) →
+          a ≡ table_answer again (k.entry_of call) (is_some (entry_for road_of before (k.named call))) (length before) →
+          MatchResult a (λ _. Given road_of (k.entry_of call) (k.named call) before after) (λ _. after ≡ before) →
+          CalledOn road_of again k m call before after a
+      entered a e c = record {
+        answer = e ∙ sym (on (m.road (k.named call)) _ there);
+        change = c;
+        history = λ h was. record {
+          answered = e ∙ sym (on (m.road (k.named call)) _ there)
+              ∙ ap (λ b. on_road (m.road (k.named call)) (table_answer again (k.entry_of call) b (length before))) (sym (laws.counts (entry_for road_of before (k.named call))) ∙ ap k.counted (was.reads (k.named call)))
+              ∙ ap (λ n. on_road (m.road (k.named call)) (table_answer again (k.entry_of call) (k.counted (said_by k h (k.named call))) n)) was.count;
+          left = left_by h a was c;
+        };
+      }
 
-    -- it is as it was where its table is
-    stays : (s : Kept E) → before.roads.entries ≡ s → (l : Limited e.road s) → over s l ≡ before
-    stays s c = subst (λ z. (l : Limited e.road z) → over z l ≡ before) c (λ l. ap (over before.roads.entries) (limited_prop e.road before.roads.entries l before.roads.limited))
+      -- by what its road is to have
+      pub called_on : (o : Result (Option E) Refusal) → k.entry_of call ≡ o → (a : Result Unit Refusal) →
+          a ≡ table_answer again o (is_some (entry_for road_of before (k.named call))) (length before) →
+          MatchResult a (λ _. Given road_of o (k.named call) before after) (λ _. after ≡ before) →
+          CalledOn road_of again k m call before after a
+      called_on o is a e c =
+          entered a (subst (λ z. a ≡ table_answer again z (is_some (entry_for road_of before (k.named call))) (length before)) (sym is) e)
+          (subst (λ z. MatchResult a (λ _. Given road_of z (k.named call) before after) (λ _. after ≡ before)) (sym is) c)
 
-    change_is : (P : Type 0) (a : Result Unit Refusal) → MatchResult a (λ _. P) (λ _. t ≡ before.roads.entries) → MatchResult a (λ _. P) (λ _. ◌≡◌ {A = Layer G E A e p} layer before)
-    change_is P (Ok u) c = c
-    change_is P (Err r) c = stays t (sym c) limited
+    -- on a layer
+    module _ {G A : Type 0} {e : EntryOf E} {p : PlacesOf A E} (before : Layer G E A e p) (t : Kept E) (limited : Limited e.road t) where
+      -- the layer with another table
+      abbrev over : (s : Kept E) → Limited e.road s → Layer G E A e p
+      over s l = record { below = before.below; roads = record { entries = s; limited = l } }
 
-    left_by : (h : List C) (a : Result Unit Refusal) → Left road_of k h before.roads.entries.used →
-        MatchResult a (λ _. Given road_of (k.entry_of call) (k.named call) before.roads.entries.used t.used) (λ _. t ≡ before.roads.entries) → Left road_of k (further h call a) t.used
-    left_by h (Ok u) was c = left_given h call before.roads.entries.used t.used (numbered (m.road (k.named call)) refl there) was (k.entry_of call) refl c
-    left_by h (Err r) was c = subst (λ (s : Kept E). Left road_of k h s.used) (sym c) was
+      abbrev layer : Layer G E A e p
+      layer = over t limited
 
-    called : (a : Result Unit Refusal) →
-        a ≡ table_answer again (k.entry_of call) (is_some (entry_for road_of before.roads.entries.used (k.named call))) (length before.roads.entries.used) →
-        MatchResult a (λ _. Given road_of (k.entry_of call) (k.named call) before.roads.entries.used t.used) (λ _. t ≡ before.roads.entries) →
-        Called road_of again k m call before layer a
-    called a e c = record {
-      answer = e ∙ sym (on (m.road (k.named call)) _ there);
-      change = change_is (Given road_of (k.entry_of call) (k.named call) before.roads.entries.used t.used) a c;
-      below = refl;
-      history = λ h was. record {
-        answered = e ∙ sym (on (m.road (k.named call)) _ there)
-            ∙ ap (λ b. on_road (m.road (k.named call)) (table_answer again (k.entry_of call) b (length before.roads.entries.used))) (sym (laws.counts (entry_for road_of before.roads.entries.used (k.named call))) ∙ ap k.counted (was.reads (k.named call)))
-            ∙ ap (λ n. on_road (m.road (k.named call)) (table_answer again (k.entry_of call) (k.counted (said_by k h (k.named call))) n)) was.count;
-        left = left_by h a was c;
-      };
-    }
+      -- it is as it was where its table is
+      stays : (s : Kept E) → before.roads.entries ≡ s → (l : Limited e.road s) → over s l ≡ before
+      stays s c = subst (λ z. (l : Limited e.road z) → over z l ≡ before) c (λ l. ap (over before.roads.entries) (limited_prop e.road before.roads.entries l before.roads.limited))
 
-    -- by what its road is to have
-    pub called_for : (o : Result (Option E) Refusal) → k.entry_of call ≡ o → (a : Result Unit Refusal) →
-        a ≡ table_answer again o (is_some (entry_for road_of before.roads.entries.used (k.named call))) (length before.roads.entries.used) →
-        MatchResult a (λ _. Given road_of o (k.named call) before.roads.entries.used t.used) (λ _. t ≡ before.roads.entries) →
-        Called road_of again k m call before layer a
-    called_for o is a e c =
-        called a (subst (λ z. a ≡ table_answer again z (is_some (entry_for road_of before.roads.entries.used (k.named call))) (length before.roads.entries.used)) (sym is) e)
-        (subst (λ z. MatchResult a (λ _. Given road_of z (k.named call) before.roads.entries.used t.used) (λ _. t ≡ before.roads.entries)) (sym is) c)
+      change_is : (P : Type 0) (a : Result Unit Refusal) → MatchResult a (λ _. P) (λ _. t ≡ before.roads.entries) → MatchResult a (λ _. P) (λ _. ◌≡◌ {A = Layer G E A e p} layer before)
+      change_is P (Ok u) c = c
+      change_is P (Err r) c = stays t (sym c) limited
+
+      -- and so are its entries
+      used_is : (P : Type 0) (a : Result Unit Refusal) → MatchResult a (λ _. P) (λ _. t ≡ before.roads.entries) → MatchResult a (λ _. P) (λ _. t.used ≡ before.roads.entries.used)
+      used_is P (Ok u) c = c
+      used_is P (Err r) c = ap (λ (s : Kept E). s.used) c
+
+      called : (a : Result Unit Refusal) →
+          a ≡ table_answer again (k.entry_of call) (is_some (entry_for road_of before.roads.entries.used (k.named call))) (length before.roads.entries.used) →
+          MatchResult a (λ _. Given road_of (k.entry_of call) (k.named call) before.roads.entries.used t.used) (λ _. t ≡ before.roads.entries) →
+          Called road_of again k m call before layer a
+      called a e c =
+          let entries = entered before.roads.entries.used t.used a e (used_is (Given road_of (k.entry_of call) (k.named call) before.roads.entries.used t.used) a c) in record {
+            answer = entries.answer;
+            change = change_is (Given road_of (k.entry_of call) (k.named call) before.roads.entries.used t.used) a c;
+            below = refl;
+            history = λ h was. let x = entries.history h was in record { answered = x.answered; left = x.left };
+          }
+
+      -- by what its road is to have
+      pub called_for : (o : Result (Option E) Refusal) → k.entry_of call ≡ o → (a : Result Unit Refusal) →
+          a ≡ table_answer again o (is_some (entry_for road_of before.roads.entries.used (k.named call))) (length before.roads.entries.used) →
+          MatchResult a (λ _. Given road_of o (k.named call) before.roads.entries.used t.used) (λ _. t ≡ before.roads.entries) →
+          Called road_of again k m call before layer a
+      called_for o is a e c =
+          called a (subst (λ z. a ≡ table_answer again z (is_some (entry_for road_of before.roads.entries.used (k.named call))) (length before.roads.entries.used)) (sym is) e)
+          (subst (λ z. MatchResult a (λ _. Given road_of z (k.named call) before.roads.entries.used t.used) (λ _. t ≡ before.roads.entries)) (sym is) c)
